@@ -14,8 +14,8 @@ use Rattle.otap_cells.specs.declared.payload.Kind.{Kind}
 use Rattle.otap_cells.specs.Payload.{kinds_of}
 use Rattle.otap_cells.specs.Sets.{tables_in}
 use Rattle.otap_cells.specs.Tables.{Table}
-use Rattle.otap_produce.specs.Exporters.{SenderIn, SendersIn, kinds_in}
-use Rattle.otap_produce.specs.SentMessages.{Adds, AreReady, AreReadyForAll, CanSend}
+use Rattle.otap_produce.specs.Senders.{SenderIn, SendersIn, kinds_in}
+use Rattle.otap_produce.specs.SentMessages.{Adds, AreReady, AreReadyForEach, CanSend}
 use Rattle.otap_columns.specs.Limits.{record_limit}
 use Rattle.otap_produce.proofs.Batches.{adds_more, history_after}
 use Rattle.otap_produce.proofs.OneMore.{sends_one}
@@ -56,7 +56,7 @@ tables pairs = tables_in (λ t. t) pairs
 
 module _ (pairs : List (Kind × Table)) (i : ℕ) (d : Kind × Table) (first now : SendersIn) (batch grown : BatchContent) (inside : i < length pairs)
     (adds : Adds (tables (take i pairs)) first now batch grown) where
-  pub ready_at : AreReadyForAll (tables pairs) first → kinds_in now.senders ≡ kinds_in first.senders → AreReady (get_or pairs i d).1 now
+  pub ready_at : AreReadyForEach (tables pairs) first → kinds_in now.senders ≡ kinds_in first.senders → AreReady (get_or pairs i d).1 now
   ready_at ready kinds =
       let at : get_or (tables pairs) i d.1 ≡ (get_or pairs i d).1 = get_or-map (λ (pair : Kind × Table). pair.1) pairs i d d.1 inside in
       let long : length (tables pairs) ≡ length pairs = length-map pairs (λ (pair : Kind × Table). pair.1) in

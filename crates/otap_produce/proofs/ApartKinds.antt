@@ -10,7 +10,7 @@ use Rattle.otlp_model.specs.declared.request.Signal.{Signal}
 use Rattle.otlp_model.specs.declared.request.Signal.TheVariants.{Traces, Logs, Metrics}
 use Rattle.otap_cells.specs.declared.payload.Kind.{Kind}
 use Rattle.otap_cells.specs.Payload.{is_kind, kinds_of, number_of}
-use Rattle.otap_produce.specs.Exporters.{SenderIn, kinds_in}
+use Rattle.otap_produce.specs.Senders.{SenderIn, kinds_in}
 
 abbrev numbers : List Kind → List ℕ
 numbers kinds = map (λ kind. number_of kind) kinds

@@ -2,7 +2,7 @@
 use Rattle.std.proofs.Common.{◌≡◌, ℕ, Bool, [], arith}
 use Rattle.otlp_model.specs.declared.request.Signal.{Signal}
 use Rattle.otap_cells.specs.Payload.{kinds_of}
-use Rattle.otap_produce.specs.Exporters.{HaveSent, SendersIn, kinds_in}
+use Rattle.otap_produce.specs.Senders.{HaveSent, SendersIn, kinds_in}
 use Rattle.otap_produce.specs.Inside.{IsExporter}
 use Rattle.otap_produce.proofs.Counting.{openings-none}
 

@@ -15,7 +15,8 @@ use Rattle.otap_cells.specs.Tables.{Table}
 use Rattle.otap_columns.specs.Streams.{is_of, opens, open_id}
 use Rattle.otap_columns.specs.TableSets.{ArePayloadsOf, IsPayloadOf, openings}
 use Rattle.otap_columns.proofs.Openings.{numbered, same_test, open_id-own, open_id-other, stays_open}
-use Rattle.otap_produce.specs.Exporters.{ExporterIn, HasSentTables, HaveSent, SenderIn, SendersIn, StandsFor}
+use Rattle.otap_produce.specs.Exporters.{ExporterIn, StandsFor}
+use Rattle.otap_produce.specs.Senders.{HasSentTables, HaveSent, SenderIn, SendersIn}
 use Rattle.otap_capture.specs.Batch.{payloads_in}
 use Rattle.otap_signals.specs.Meanings.{SignalRows}
 use Rattle.otap_produce.specs.Policy.{IsMessageOf, Policy}

@@ -5,7 +5,7 @@ use Rattle.std.proofs.lemmas.Bool.{cases_eq, false≢true}
 use Rattle.std.proofs.lemmas.List.{get_or-set_same, get_or-set_other}
 use Rattle.otap_cells.specs.declared.payload.Kind.{Kind}
 use Rattle.otap_columns.specs.Writers.{HasWritten}
-use Rattle.otap_produce.specs.Exporters.{HasSentTables, HaveSent, SenderIn, SendersIn}
+use Rattle.otap_produce.specs.Senders.{HasSentTables, HaveSent, SenderIn, SendersIn}
 use Rattle.otap_produce.proofs.Counting.{openings-none}
 use Rattle.otap_produce.proofs.Stepping.{last_none}
 use Rattle.otap_columns.proofs.Openings.{open_id-none}

@@ -1,32 +1,30 @@
 -- A batch to which the payloads of tables were added is their message.
-use Rattle.std.proofs.Common.{◌≡◌, ℕ, ◌<◌, ◌≤◌, ◌^◌, List, [], ◌++◌, length, pos, sym, ap, ◌∙◌, subst, arith}
+use Rattle.std.proofs.Common.{◌≡◌, ℕ, ℤ, ◌<◌, ◌≤◌, ◌^◌, List, [], ◌++◌, length, sym, ap, ◌∙◌, subst, arith}
 use Rattle.std.specs.Prelude.{FitsSigned}
 use Rattle.std.specs.Int.{w64}
 use Rattle.std.specs.List.{AllByRecursion}
-use Rattle.std.proofs.lemmas.Int.{fits_signed_from_abs}
-use Rattle.otap_capture.specs.Batch.{BatchContent, IsRealBatch, IsRealPayload, ReadsBatch, batch_content, canon_batch}
+use Rattle.otap_capture.specs.Batch.{BatchContent, IsRealBatch, IsRealPayload, ReadsBatch, batch_content, canon_batch, payloads_in}
 use Rattle.otap_capture.specs.Capture.{longest_frame}
 use Rattle.otap_cells.specs.Tables.{Table}
 use Rattle.otap_columns.specs.Limits.{tables_limit}
-use Rattle.otap_produce.specs.Exporters.{SendersIn}
-use Rattle.otap_produce.specs.Limits.{batch_limit}
-use Rattle.otap_produce.specs.SentMessages.{Adds, Sends, SendsMessage}
+use Rattle.otap_produce.specs.Senders.{SendersIn, SendsMessage}
+use Rattle.otap_produce.specs.SentMessages.{Adds, Sends}
 use Rattle.otap_produce.specs.Sizes.{payloads_most, size_of, size_limit}
 use Rattle.otap_produce.proofs.Lengths.{batch_most}
 
-module _ (number : ℕ) (ts : List Table) (old new : SendersIn) (start batch : BatchContent) (bytes : List ℕ)
+module _ (number : ℤ) (ts : List Table) (old new : SendersIn) (start batch : BatchContent) (bytes : List ℕ)
     (law : (b : BatchContent) → IsRealBatch b → length (canon_batch b) < 2 ^ 64 → ReadsBatch (canon_batch b) b)
-    (begun : start ≡ record { id = pos number; payloads = [] }) (adds : Adds ts old new start batch) (spelled : bytes ≡ canon_batch batch)
-    (small : number < batch_limit) (few : length ts ≤ tables_limit) (size : payloads_most ts ≤ size_limit) where
+    (begun : start ≡ record { id = number; payloads = [] }) (adds : Adds ts old new start batch) (spelled : bytes ≡ canon_batch batch)
+    (fits : FitsSigned w64 number) (few : length ts ≤ tables_limit) (size : payloads_most ts ≤ size_limit) where
   payloads_are : batch.payloads ≡ adds.payloads
   payloads_are = adds.are ∙ ap (λ (b : BatchContent). b.payloads ++ adds.payloads) begun
 
-  id_is : batch.id ≡ pos number
+  id_is : batch.id ≡ number
   id_is = adds.id ∙ ap (λ (b : BatchContent). b.id) begun
 
   real : IsRealBatch batch
   real = record {
-    id = subst (FitsSigned w64) (sym id_is) (fits_signed_from_abs w64 (pos number) (omega (arith, small)));
+    id = subst (FitsSigned w64) (sym id_is) fits;
     payloads = subst (AllByRecursion IsRealPayload) (sym payloads_are) adds.real;
   }
 
@@ -41,10 +39,29 @@ module _ (number : ℕ) (ts : List Table) (old new : SendersIn) (start batch : B
   read : batch_content bytes ≡ batch
   read = ap batch_content spelled ∙ sym (law batch real (omega (arith, short))).1
 
+  canonical : bytes ≡ canon_batch (batch_content bytes)
+  canonical = spelled ∙ ap canon_batch (sym read)
+
+  numbered : (batch_content bytes).id ≡ number
+  numbered = ap (λ (b : BatchContent). b.id) read ∙ id_is
+
+  fits_frame : length bytes ≤ longest_frame
+  fits_frame = omega (arith, ap length spelled, short)
+
+  sends : Sends ts old new (payloads_in bytes)
+  sends = subst (Sends ts old new) (sym (ap (λ (b : BatchContent). b.payloads) read ∙ payloads_are)) adds.sends
+
   pub message_sent : SendsMessage number ts old new bytes
   message_sent = record {
-    canonical = spelled ∙ ap canon_batch (sym read);
-    id = ap (λ (b : BatchContent). b.id) read ∙ id_is;
-    sends = subst (Sends ts old new) (sym (ap (λ (b : BatchContent). b.payloads) read ∙ payloads_are)) adds.sends;
-    short = omega (arith, ap length spelled, short);
+    canonical = canonical;
+    id = numbered;
+    short = fits_frame;
+    message = λ before past have. record {
+      canonical = canonical;
+      id = numbered;
+      payloads = sends.are before past have;
+      short = fits_frame;
+    };
+    laid = sends.laid;
+    sent = sends.after;
   }

@@ -18,12 +18,7 @@ use Rattle.otap_columns.specs.WrittenPayloads.{IsWritableTable}
 use Rattle.otap_signals.specs.BySignal.{RequestComesBack, rows_by, tables_of_request}
 use Rattle.otap_signals.specs.Signals.{IsWritten}
 use Rattle.otap_produce.specs.Policy.{IsExported}
-use Rattle.otap_produce.specs.TableOrder.{AreInOrder}
-
--- the tables of a signal are in order, and each can be written
-pub record HaveWritable (signal : Signal) (tables : List Table) : Type 0 where
-  pub order : AreInOrder signal tables
-  pub each : All (λ t. IsWritableTable t.kind t) tables
+use Rattle.otap_produce.specs.TableOrder.{AreInOrder, HaveWritable}
 
 -- a table of the profile can be written
 can_be_written : (t : Table) → IsProfileTable t → IsWritableTable t.kind t
@@ -39,18 +34,19 @@ can_be_written t profile = record {
       );
 }
 
--- the main table is kept, and the others that have rows
-kept : Signal → List Table → Kind → Bool
-kept signal ts kind = is_kind kind (main_of signal) || nat_lt 0 (length (table_named kind ts).rows)
-
-writable : (signal : Signal) (ts : List Table)
-    → map (λ t. t.kind) ts ≡ filter (λ kind. is_kind kind (main_of signal) || nat_lt 0 (length (table_named kind ts).rows)) (kinds_of signal)
-    → All IsProfileTable ts → HaveWritable signal ts
-unfolding kept
-writable signal ts kinds profile = record {
-  order = record { has = kept signal ts; kinds = kinds };
+-- and so can tables of the profile that are in order
+pub profile_writable : (signal : Signal) (ts : List Table) → AreInOrder signal ts → All IsProfileTable ts → HaveWritable signal ts
+profile_writable signal ts order profile = record {
+  order = order;
   each = All-weaker IsProfileTable (λ (t : Table). IsWritableTable t.kind t) can_be_written ts profile;
 }
+
+-- the main table is there, and the others that have rows
+abbrev kept : Signal → List Table → Kind → Bool
+kept signal ts kind = is_kind kind (main_of signal) || nat_lt 0 (length (table_named kind ts).rows)
+
+writable : (signal : Signal) (ts : List Table) → map (λ t. t.kind) ts ≡ filter (kept signal ts) (kinds_of signal) → All IsProfileTable ts → HaveWritable signal ts
+writable signal ts kinds profile = profile_writable signal ts (record { has = kept signal ts; kinds = kinds }) profile
 
 pub exported_writable : ((request : Request) → IsWritten request → RequestComesBack request) → (signal : Signal) (q : Request) → IsExported (rows_by signal) q → HaveWritable signal (tables_of_request q)
 exported_writable back signal q exported =

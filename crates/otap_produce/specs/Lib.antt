@@ -1,6 +1,7 @@
 pub mod Limits
-pub mod Policy
 pub mod TableOrder
+pub mod Policy
+pub mod Senders
 pub mod Exporters
 pub mod Sizes
 pub mod SentMessages

@@ -1,5 +1,5 @@
 //! Exports requests: a batch message for each, after those of its segment.
-ghost use Rattle.std.specs.Prelude.{[], ◌≡◌, ◌≤◌, ◌<◌, ◌+◌, ◌*◌, ℕ, List, true, false, IfOk, IfErr, OnOk, OnErr};
+ghost use Rattle.std.specs.Prelude.{[], ◌≡◌, ◌≤◌, ◌<◌, ◌+◌, ◌*◌, ℕ, pos, List, true, false, IfOk, IfErr, OnOk, OnErr};
 ghost use Rattle.std.specs.List.{flat_map};
 ghost use Rattle.otlp_model.specs.declared.request.Request.{Request};
 ghost use Rattle.otlp_model.specs.Profile.{IsProfile};
@@ -9,16 +9,15 @@ ghost use Rattle.otap_cells.specs.Payload.{kinds_of};
 ghost use Rattle.otap_columns.specs.Limits.{tables_limit};
 ghost use Rattle.otap_columns.specs.TableSets.{openings};
 ghost use Rattle.otap_signals.specs.BySignal.{rows_by, tables_of_request};
-ghost use Rattle.otap_produce.specs.Exporters.{Exports, AfterRefusal, Refuses, StandsFor, kinds_in};
+ghost use Rattle.otap_produce.specs.Exporters.{Exports, AfterRefusal, Refuses, StandsFor};
 ghost use Rattle.otap_produce.specs.Limits.{batch_limit};
 ghost use Rattle.otap_produce.specs.Policy.{IsExported};
-ghost use Rattle.otap_produce.specs.SentMessages.{RefusesUnwritten, SendsMessage};
-ghost use Rattle.otap_produce.specs.Inside.{HaveHistory};
+ghost use Rattle.otap_produce.specs.Senders.{HaveHistory, SendsMessage, kinds_in};
+ghost use Rattle.otap_produce.specs.SentMessages.{RefusesUnwritten};
 
 use crate::refusal::ProduceRefusal;
 use crate::senders::Senders;
 use otap_cells::MAX_ROW_WEIGHT;
-use otap_columns::writer_laws::records_fit_a_message;
 use otap_signals::laws::requests_come_back;
 use otap_signals::{row_weight, tables_of};
 use otlp_model::{MAX_ITEMS, MAX_TREE_WEIGHT, Request, Signal, items, weight};
@@ -163,14 +162,13 @@ fn message_of(
     requires history { HaveHistory senders.old }
     requires few { senders.old.openings ≤ tables_limit * batches }
     requires batches { batches < batch_limit }
-    ensures sends { IfOk result (λ bytes. SendsMessage batches (tables_of_request request.now) senders.old senders.new bytes.items) }
+    ensures sends { IfOk result (λ bytes. SendsMessage (pos batches) (tables_of_request request.now) senders.old senders.new bytes.items) }
     ensures kinds { kinds_in senders.new.senders ≡ kinds_in senders.old.senders }
     ensures few { OnOk result (senders.new.openings ≤ senders.old.openings + tables_limit) }
     ensures uncounted { OnErr result (senders.new.openings ≡ senders.old.openings) }
 {
     requests_come_back();
-    records_fit_a_message();
     let set = tables_of(alloc, request)?;
-    let bytes = senders.send_all(batches, &set.tables)?;
+    let bytes = senders.send_all(batches as i64, &set.tables)?;
     Ok(bytes)
 }

@@ -1,4 +1,4 @@
-//! The exporter: the batch messages of the requests of a segment.
+//! The exporter: the batch messages of the requests of a segment, and of any sets of tables.
 #![tactic(auto)]
 
 mod exporter;
@@ -9,3 +9,4 @@ mod senders;
 
 pub use exporter::Exporter;
 pub use refusal::ProduceRefusal;
+pub use senders::Senders;

@@ -21,7 +21,7 @@ pub(crate) struct Sender {
 
 impl Model for Sender {
     ghost use Rattle.std.specs.Prelude.{◌≡◌};
-    ghost use Rattle.otap_produce.specs.Exporters.{SenderIn};
+    ghost use Rattle.otap_produce.specs.Senders.{SenderIn};
 
     ghost Value = { SenderIn };
 

@@ -3,27 +3,30 @@ ghost use Rattle.std.specs.Prelude.{◌≡◌, ◌≤◌, ◌<◌, ◌+◌, ◌^
 ghost use Rattle.std.specs.List.{slice_index_or};
 ghost use Rattle.otap_cells.specs.Payload.{kinds_of};
 ghost use Rattle.otap_cells.specs.Sets.{tables_in};
-ghost use Rattle.otap_produce.specs.Exporters.{SenderIn, HasSentTables, HaveSent, kinds_in};
-ghost use Rattle.otap_produce.specs.Limits.{batch_limit};
-ghost use Rattle.otap_produce.specs.SentMessages.{Adds, AreReady, AreReadyForAll, SendsMessage};
+ghost use Rattle.otap_columns.specs.Limits.{tables_limit};
+ghost use Rattle.otap_produce.specs.Senders.{SenderIn, HasSentTables, HaveSent, AreReadyForAll, SendsMessage, kinds_in};
+ghost use Rattle.otap_produce.specs.SentMessages.{Adds, AreReady, AreReadyForEach};
 
 use crate::sender::Sender;
 use otap_capture::{BatchWriter, written_batch_is_read};
 use otap_cells::{Kind, LogicalTable, Rows, kinds};
+use otap_columns::writer_laws::records_fit_a_message;
 use otlp_model::Signal;
 use std::alloc::{AllocError, Global};
 use std::marker::Model;
 
-/// What was sent in a segment: a sender for each kind of the signal, and how many payloads opened a sub-stream.
+/// Sends sets of tables of a signal, whatever they come from. Of a segment it keeps what decides the next messages: a sender for
+/// each kind of table, with its columns, its dictionaries and its last schema id, and how many payloads opened a sub-stream. A
+/// contract sees this state, and `HaveSent` says after which tables and payloads senders have it.
 #[derive(Debug, Drop)]
-pub(crate) struct Senders {
+pub struct Senders {
     alloc: Global,
     senders: Vec<Sender>,
     openings: u64,
 }
 
 impl Model for Senders {
-    ghost use Rattle.otap_produce.specs.Exporters.{SendersIn};
+    ghost use Rattle.otap_produce.specs.Senders.{SendersIn};
 
     ghost Value = { SendersIn };
 
@@ -32,7 +35,7 @@ impl Model for Senders {
 
 impl Senders {
     /// The senders of a signal, which have sent nothing.
-    pub(crate) fn new(alloc: Global, signal: Signal) -> Result<Senders, AllocError>
+    pub fn new(alloc: Global, signal: Signal) -> Result<Senders, AllocError>
         ensures kinds { IfOk result (λ s. kinds_in s.senders ≡ kinds_of signal) }
         ensures sent { IfOk result (λ s. HaveSent [] [] s) }
     {
@@ -47,8 +50,8 @@ impl Senders {
         })
     }
 
-    /// Forgets what was sent.
-    pub(crate) fn reset(&mut self)
+    /// Forgets what was sent: a new segment begins.
+    pub fn reset(&mut self)
         ensures kinds { kinds_in self.new.senders ≡ kinds_in self.old.senders }
         ensures sent { HaveSent [] [] self.new }
     {
@@ -57,26 +60,29 @@ impl Senders {
     }
 
     /// How many payloads opened a sub-stream.
-    pub(crate) fn openings(&self) -> u64
+    pub fn openings(&self) -> u64
         ensures { result ≡ self.now.openings }
     {
         self.openings
     }
 
-    /// The batch message of tables: a payload for each. Where memory runs out, none of them counts as an opening.
-    pub(crate) fn send_all(
+    /// The batch message of tables, under any id: a payload for each table. The tables are of the senders' signal, in the order of
+    /// its kinds, and within the limit on row weight. Where memory runs out, no opening is counted, and what was sent is unknown
+    /// until a reset.
+    pub fn send_all(
         &mut self,
-        id: u64,
+        id: i64,
         tables: &[(Kind, LogicalTable)],
     ) -> Result<Vec<u8>, AllocError>
-        requires ready { AreReadyForAll (tables_in (λ t. t) tables.now) self.old }
-        requires id { id < batch_limit }
+        requires { AreReadyForAll (tables_in (λ t. t) tables.now) self.old }
         ensures sends { IfOk result (λ bytes. SendsMessage id (tables_in (λ t. t) tables.now) self.old self.new bytes.items) }
         ensures openings { OnOk result (self.new.openings ≤ self.old.openings + length tables.now) }
+        ensures few { OnOk result (self.new.openings ≤ self.old.openings + tables_limit) }
         ensures uncounted { OnErr result (self.new.openings ≡ self.old.openings) }
         ensures kinds { kinds_in self.new.senders ≡ kinds_in self.old.senders }
     {
-        let mut batch = BatchWriter::new(self.alloc, id as i64)?;
+        records_fit_a_message();
+        let mut batch = BatchWriter::new(self.alloc, id)?;
         let before = self.openings;
         match self.add_all(tables, &mut batch) {
             Ok(()) => {
@@ -96,7 +102,7 @@ impl Senders {
         tables: &[(Kind, LogicalTable)],
         batch: &mut BatchWriter,
     ) -> Result<(), AllocError>
-        requires { AreReadyForAll (tables_in (λ t. t) tables.now) self.old }
+        requires { AreReadyForEach (tables_in (λ t. t) tables.now) self.old }
         ensures adds { OnOk result (Adds (tables_in (λ t. t) tables.now) self.old self.new batch.old batch.new) }
         ensures kinds { kinds_in self.new.senders ≡ kinds_in self.old.senders }
     {

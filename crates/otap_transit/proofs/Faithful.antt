@@ -16,7 +16,7 @@ use Rattle.otap_cells.specs.Named.{table_named}
 use Rattle.otap_cells.specs.Payload.{is_kind, main_of}
 use Rattle.otap_cells.specs.Sets.{rows_named}
 use Rattle.otap_cells.specs.Tables.{Table}
-use Rattle.otap_groups.specs.ProfileTables.{IsProfileTable, HasProfileIds}
+use Rattle.otap_groups.specs.ProfileTables.{IsProfileTable}
 use Rattle.otap_checks.specs.Reading.{HasAllIds}
 use Rattle.otap_checks.specs.RowDefects.{RowDefect}
 use Rattle.otap_signals.specs.BySignal.{RequestComesBack, meaning_by, request_in, rows_by, tables_of_request}
@@ -24,6 +24,7 @@ use Rattle.otap_signals.specs.Signals.{ComesBack, IsWritten}
 use Rattle.otap_produce.specs.Policy.{IsExported}
 use Rattle.otap_produce.proofs.WritableTables.{exported_writable}
 use Rattle.otap_transit.specs.Faithful.{AreFaithful, MeanTheSame}
+use Rattle.otap_transit.proofs.FitTables.{all_ids}
 
 -- the rows of a kind are those of its table
 named_rows : (kind : Kind) (ts : List Table) → rows_named kind ts ≡ (table_named kind ts).rows
@@ -37,10 +38,6 @@ named_rows kind (t ∷ ts) =
 -- a table of each item has no more rows than there are items
 few_rows : (kind : Kind) (ts : List Table) (q : Request) → length (table_named kind ts).rows ≡ length (telemetry q) → length (rows_named kind ts) ≤ length (telemetry q)
 few_rows kind ts q each = omega (arith, ap length (named_rows kind ts), each)
-
--- tables of the profile have ids
-all_ids : (t : Table) → IsProfileTable t → HasAllIds t
-all_ids t profile column is_id = let has : HasProfileIds t column = profile.columns column is_id in (has.ids, has.are)
 
 module _ (back : (request : Request) → IsWritten request → RequestComesBack request)
     (request : (signal : Signal) (tables others : List Table) → ReadAs tables others → All HasAllIds others → request_in signal tables ≡ request_in signal others)
@@ -72,7 +69,7 @@ module _ (back : (request : Request) → IsWritten request → RequestComesBack 
     pub faithful : (signal : Signal) → AreFaithful (meaning_by signal) (rows_by signal)
     faithful signal = record {
       signal = refl;
-      order = λ q exported. (exported_writable back signal q exported).order;
+      writable = exported_writable back signal;
       items = λ q exported. few_rows (main_of signal) (tables_of_request q) q (comes_back signal q exported).items;
       means = means signal;
     }

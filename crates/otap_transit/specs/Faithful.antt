@@ -11,7 +11,7 @@ use Rattle.otap_cells.specs.Sets.{rows_named}
 use Rattle.otap_cells.specs.Tables.{Table}
 use Rattle.otap_signals.specs.Meanings.{Meaning, AreClean, SignalRows}
 use Rattle.otap_produce.specs.Policy.{IsExported}
-use Rattle.otap_produce.specs.TableOrder.{AreInOrder}
+use Rattle.otap_produce.specs.TableOrder.{HaveWritable}
 
 -- tables that read as those of a request: nothing is wrong with their rows, and they mean the same telemetry
 pub record MeanTheSame (m : Meaning) (q : Request) (tables : List Table) : Type 0 where
@@ -22,8 +22,8 @@ pub record MeanTheSame (m : Meaning) (q : Request) (tables : List Table) : Type 
 -- THE TABLES OF REQUESTS ARE FAITHFUL to what tables mean
 pub record AreFaithful (m : Meaning) (rows : SignalRows) : Type 0 where
   pub signal : m.signal ≡ rows.signal
-  -- its kinds are among the signal's, none twice
-  pub order : (q : Request) → IsExported rows q → AreInOrder rows.signal (rows.tables q)
+  -- they can be written, and their kinds are among the signal's, none twice
+  pub writable : (q : Request) → IsExported rows q → HaveWritable rows.signal (rows.tables q)
   -- the main table has no more rows than the request has items
   pub items : (q : Request) → IsExported rows q → length (rows_named (main_of rows.signal) (rows.tables q)) ≤ length (telemetry q)
   pub means : (q : Request) (tables : List Table) → IsExported rows q → ReadAs tables (rows.tables q) → MeanTheSame m q tables

@@ -1,5 +1,5 @@
 use Rattle.std.proofs.Common.{sym, ap, ◌∙◌, arith}
-use Rattle.otap_produce.specs.Exporters.{SenderIn}
+use Rattle.otap_produce.specs.Senders.{SenderIn}
 use Rattle.otap_produce.proofs.Adding.{kinds_set}
 use Rattle.otap_produce.proofs.Fresh.{anew_at, has_sent_none}
 use Rattle.otap_produce.proofs.senders.begin_anew.Goals as goal

@@ -1,6 +1,6 @@
 use Rattle.std.proofs.Common.{◌≡◌, ◌<◌, ℕ, []}
 use Rattle.std.specs.List.{slice_index_or}
-use Rattle.otap_produce.specs.Exporters.{HasSentTables, SenderIn, kinds_in}
+use Rattle.otap_produce.specs.Senders.{HasSentTables, SenderIn, kinds_in}
 use Rattle.otap_produce.proofs.senders.begin_anew.Given as goal
 
 abbrev pub invariant-senders : goal.invariant-senders

@@ -1,6 +1,6 @@
 use Rattle.std.proofs.Common.{◌<◌, length, sym, ◌∙◌, arith}
 use Rattle.std.proofs.lemmas.List.{get_or-map, length-map}
-use Rattle.otap_produce.specs.Exporters.{SenderIn}
+use Rattle.otap_produce.specs.Senders.{SenderIn}
 use Rattle.otap_produce.proofs.Fresh.{some_sender}
 use Rattle.otap_produce.proofs.senders.place_of.Goals as goal
 

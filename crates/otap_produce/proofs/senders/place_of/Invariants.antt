@@ -1,6 +1,6 @@
 use Rattle.std.proofs.Common.{◌≡◌, ◌<◌, ℕ}
 use Rattle.std.specs.List.{slice_index_or}
-use Rattle.otap_produce.specs.Exporters.{SenderIn}
+use Rattle.otap_produce.specs.Senders.{SenderIn}
 use Rattle.otap_produce.proofs.senders.place_of.Given as goal
 
 abbrev pub invariant-senders : goal.invariant-senders

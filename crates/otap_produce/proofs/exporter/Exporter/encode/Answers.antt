@@ -1,9 +1,7 @@
-use Rattle.std.proofs.Common.{◌+◌, false, refl, ◌∙◌, subst, arith}
+use Rattle.std.proofs.Common.{◌+◌, false, pos, refl, ◌∙◌, subst, arith}
 use Rattle.otap_produce.specs.Exporters.{ExporterIn, Exports}
-use Rattle.otap_capture.specs.Batch.{payloads_in}
 use Rattle.otap_signals.specs.BySignal.{rows_by, tables_of_request}
-use Rattle.otap_produce.proofs.Batches.{history_after}
-use Rattle.otap_produce.proofs.Exporting.{exports}
+use Rattle.otap_produce.proofs.Exporting.{exports, history_sent}
 use Rattle.otap_produce.proofs.exporter.Exporter.encode.Goals as goal
 
 pub invariant_of-self-2 : goal.invariant_of-self-2
@@ -12,8 +10,8 @@ invariant_of-self-2 c =
     record {
       kinds = c.in_ok-bytes.ensures.kinds ∙ c.self.invariant.kinds;
       history = λ is.
-          history_after (tables_of_request c.args.request.now) c.self.inside.senders c.message_of.new.senders (payloads_in c.in_ok-bytes.bytes.items)
-          (c.self.invariant.history sound) c.in_ok-bytes.ensures.sends.sends;
+          history_sent (pos c.self.inside.batches) (tables_of_request c.args.request.now) c.self.inside.senders c.message_of.new.senders c.in_ok-bytes.bytes.items
+          (c.self.invariant.history sound) c.in_ok-bytes.ensures.sends;
       few = λ is. omega (arith, c.in_ok-bytes.ensures.few, c.self.invariant.few sound);
     }
 

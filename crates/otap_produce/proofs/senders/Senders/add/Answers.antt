@@ -7,7 +7,7 @@ use Rattle.lists.specs.Payloads.{PayloadIn}
 use Rattle.otap_capture.specs.BatchWriting.{with_payload}
 use Rattle.otap_cells.specs.declared.payload.Kind.{Kind}
 use Rattle.otap_cells.specs.Payload.{number_of}
-use Rattle.otap_produce.specs.Exporters.{SenderIn, SendersIn, kinds_in}
+use Rattle.otap_produce.specs.Senders.{SenderIn, SendersIn, kinds_in}
 use Rattle.otap_produce.specs.SentMessages.{Adds}
 use Rattle.otap_produce.proofs.Adding.{adds_one, kinds_set}
 use Rattle.otap_produce.proofs.Stepping.{SendsOne}

@@ -1,6 +1,6 @@
 use Rattle.std.proofs.Common.{◌≡◌, take}
 use Rattle.otap_cells.specs.Sets.{tables_in}
-use Rattle.otap_produce.specs.Exporters.{kinds_in}
+use Rattle.otap_produce.specs.Senders.{kinds_in}
 use Rattle.otap_produce.specs.SentMessages.{Adds}
 use Rattle.otap_produce.proofs.senders.Senders.add_all.Given as goal
 

@@ -4,7 +4,7 @@ use Rattle.std.proofs.lemmas.List.{map-append, take_more}
 use Rattle.std.proofs.lemmas.List.Elements.{All-push}
 use Rattle.otap_cells.specs.declared.payload.Kind.{Kind}
 use Rattle.otap_cells.specs.declared.payload.Kind.TheVariants.{ResourceAttrs}
-use Rattle.otap_produce.specs.Exporters.{HasSentTables, SenderIn, kinds_in}
+use Rattle.otap_produce.specs.Senders.{HasSentTables, SenderIn, kinds_in}
 use Rattle.otap_produce.proofs.Fresh.{has_sent_none, have_sent_none}
 use Rattle.otap_produce.proofs.senders.Senders.new.Goals as goal
 

@@ -1,6 +1,6 @@
 use Rattle.std.proofs.Common.{◌≡◌, take, []}
 use Rattle.std.specs.Prelude.{All}
-use Rattle.otap_produce.specs.Exporters.{HasSentTables, kinds_in}
+use Rattle.otap_produce.specs.Senders.{HasSentTables, kinds_in}
 use Rattle.otap_produce.proofs.senders.Senders.new.Given as goal
 
 abbrev pub invariant-kinds : goal.invariant-kinds

@@ -1,7 +1,7 @@
 use Rattle.std.proofs.Common.{◌≡◌, [], length, refl, sym, subst, arith}
 use Rattle.std.specs.Prelude.{All}
 use Rattle.std.proofs.lemmas.List.{with_items_is}
-use Rattle.otap_produce.specs.Exporters.{HasSentTables}
+use Rattle.otap_produce.specs.Senders.{HasSentTables}
 use Rattle.otap_produce.proofs.Fresh.{have_sent_none}
 use Rattle.otap_produce.proofs.senders.Senders.reset.Goals as goal
 
