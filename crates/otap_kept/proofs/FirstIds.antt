@@ -12,12 +12,12 @@ use Rattle.otap_kept.proofs.Once.{apart_once, one, times_more}
 
 -- ---- none twice
 
-times_after : (n : ℕ) (xs ys : List (Option ℕ)) → times n (xs ++ ys) ≡ times n xs + times n ys
+pub times_after : (n : ℕ) (xs ys : List (Option ℕ)) → times n (xs ++ ys) ≡ times n xs + times n ys
 times_after n [] ys = omega arith
 times_after n (x ∷ xs) ys = omega (arith, times_after n xs ys, times_more n x (xs ++ ys), times_more n x xs)
 
 -- an id that isn't among others occurs 0 times among them
-not_there : (n : ℕ) (xs : List (Option ℕ)) → is_among xs n ≡ false → times n xs ≡ 0
+pub not_there : (n : ℕ) (xs : List (Option ℕ)) → is_among xs n ≡ false → times n xs ≡ 0
 not_there n [] none = refl
 not_there n (x ∷ xs) none = elim (cases_Bool (id_is x (Some n))) [
   | inl hit ↦ absurd (false≢true (sym none ∙ rw hit refl))

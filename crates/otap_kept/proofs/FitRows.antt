@@ -39,19 +39,19 @@ from_cells (column ∷ columns) [] long fits = absurd (omega (arith, long))
 from_cells (column ∷ columns) (cell ∷ cells) long fits = (fits 0, from_cells columns cells (omega (arith, long)) (λ k. fits (suc k)))
 
 -- the rows of a table fit its columns
-row_of_table : (t : Table) → IsTable t → (row : ℕ) → row < length t.rows → IsRow (columns_of t.kind) (get_or t.rows row [])
+pub row_of_table : (t : Table) → IsTable t → (row : ℕ) → row < length t.rows → IsRow (columns_of t.kind) (get_or t.rows row [])
 row_of_table t is row within = from_cells (columns_of t.kind) (get_or t.rows row []) (All-get_or (λ cells. length cells ≡ width_of t.kind) t.rows row [] within is.wide) (λ k. is.fits k row)
 
 id_fits : (holds : Base) (n : ℕ) → is_id holds ≡ true → n < 2 ^ 32 → IsCellOf holds (id_cell n)
 id_fits (base.Id wide) n is low = low
 id_fits _ n is low = absurd (false≢true is)
 
-first_fits : (columns : List ColumnSpec) (cells : List Cell) (x : Cell) → IsRow columns cells → 1 ≤ length columns → IsCellOf (get_or columns 0 (plain [] base.Binary)).base x → IsRow columns (x ∷ drop 1 cells)
+pub first_fits : (columns : List ColumnSpec) (cells : List Cell) (x : Cell) → IsRow columns cells → 1 ≤ length columns → IsCellOf (get_or columns 0 (plain [] base.Binary)).base x → IsRow columns (x ∷ drop 1 cells)
 first_fits [] cells x fits wide is = absurd (omega arith)
 first_fits (column ∷ columns) [] x fits wide is = absurd fits
 first_fits (column ∷ columns) (cell ∷ cells) x fits wide is = (is, fits.1)
 
-two_fit : (columns : List ColumnSpec) (cells : List Cell) (x y : Cell) → IsRow columns cells → 2 ≤ length columns → IsCellOf (get_or columns 0 (plain [] base.Binary)).base x
+pub two_fit : (columns : List ColumnSpec) (cells : List Cell) (x y : Cell) → IsRow columns cells → 2 ≤ length columns → IsCellOf (get_or columns 0 (plain [] base.Binary)).base x
     → IsCellOf (get_or columns 1 (plain [] base.Binary)).base y → IsRow columns (x ∷ y ∷ drop 2 cells)
 two_fit [] cells x y fits wide a b = absurd (omega arith)
 two_fit (one ∷ []) cells x y fits wide a b = absurd (omega arith)
@@ -137,7 +137,7 @@ module _ (kind : Kind) where
   FitsMain row = (x y z : Cell) → IsCellOf (base_at kind 0) x → IsCellOf (base_at kind 1) y → IsCellOf (base_at kind 4) z
       → IsRow (columns_of kind) (x ∷ y ∷ row.resource ++ (z ∷ row.scope ++ (row.schema_url ∷ row.own)))
 
-  main_fits : (ids resources scopes : List (Option ℕ)) (t : Table) → IsTable t → t.kind ≡ kind → 9 ≤ width_of kind → (k : ℕ) → k < length t.rows → FitsMain (main_row_at ids resources scopes t.rows k)
+  pub main_fits : (ids resources scopes : List (Option ℕ)) (t : Table) → IsTable t → t.kind ≡ kind → 9 ≤ width_of kind → (k : ℕ) → k < length t.rows → FitsMain (main_row_at ids resources scopes t.rows k)
   main_fits ids resources scopes t is same wide k within x y z a b c =
       from_cells (columns_of kind) (x ∷ y ∷ cell_at cells 2 ∷ cell_at cells 3 ∷ z ∷ cell_at cells 5 ∷ cell_at cells 6 ∷ cell_at cells 7 ∷ cell_at cells 8 ∷ drop 9 cells)
       (omega (arith, long, wide, left)) each where

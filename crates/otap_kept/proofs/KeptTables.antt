@@ -35,7 +35,7 @@ module _ (tables : List Table) where
       let ids = parent_ids link.parents known in
       (formed_below ids link.kind, all_formed (known_after tables ids link.kind known) links)
 
-  all_numbers : (known : List KeptIds) (links : List TableLink) → numbers (kept_below tables known links) ≡ map (λ (link : TableLink). number_of link.kind) links
+  pub all_numbers : (known : List KeptIds) (links : List TableLink) → numbers (kept_below tables known links) ≡ map (λ (link : TableLink). number_of link.kind) links
   all_numbers known [] = refl
   all_numbers known (link ∷ links) =
       let ids = parent_ids link.parents known in

@@ -35,3 +35,17 @@ pub mod FineSignals
 pub mod FitRows
 pub mod ProfileTables
 pub mod KindsKept
+pub mod Numberings
+pub mod IdRuns
+pub mod TextPairs
+pub mod PairHolders
+pub mod MainPlaces
+pub mod UnderRows
+pub mod MainAgain
+pub mod KeptSets
+pub mod WrittenSteps
+pub mod WrittenTables
+pub mod KeptCall
+pub mod KeptBatch
+pub mod RowFits
+pub mod SortedEntries

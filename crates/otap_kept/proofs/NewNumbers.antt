@@ -10,7 +10,7 @@ some_same : (m n : ℕ) → Some m ≡ Some n → m ≡ n
 some_same m n e = cc e
 
 -- an id that is found is the one at its index
-hit : (other : Option ℕ) (id : ℕ) → id_is other (Some id) ≡ true → other ≡ Some id
+pub hit : (other : Option ℕ) (id : ℕ) → id_is other (Some id) ≡ true → other ≡ Some id
 hit None id t = absurd (false≢true t)
 hit (Some n) id t = ap Some (eqb-true n id t)
 

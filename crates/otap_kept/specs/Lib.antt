@@ -4,3 +4,6 @@ pub mod Tables
 pub mod Accepted
 pub mod Kept
 pub mod Filtered
+pub mod Numbering
+pub mod Holding
+pub mod Writing
