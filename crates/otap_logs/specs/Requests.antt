@@ -2,7 +2,9 @@
 use Rattle.std.specs.Prelude.{ℕ, List, Option}
 use Rattle.otlp_model.specs.declared.groups.ResourceGroup.{ResourceGroup}
 use Rattle.otlp_model.specs.declared.logs.LogRecord.{LogRecord}
+use Rattle.otlp_model.specs.declared.request.Request.TheVariants.{Logs}
 use Rattle.otlp_model.specs.declared.request.Signal.TheVariants as signal
+use Rattle.otlp_model.specs.Weight.{weight_of}
 use Rattle.otap_cells.specs.declared.payload.Kind.{Kind}
 use Rattle.otap_cells.specs.declared.payload.Kind.TheVariants as table
 use Rattle.otap_cells.specs.Cells.{Cell}
@@ -22,6 +24,14 @@ record_in tables id cells = record_of cells (pairs_in (table_named table.LogAttr
 unfoldable pub regrouped_logs : List Table → List (ResourceGroup LogRecord)
 regrouped_logs tables = regrouped_in table.Logs record_in tables
 
+-- what that request weighs
+abbrev pub regrouped_weight : List Table → ℕ
+regrouped_weight tables = weight_of (Logs (regrouped_logs tables))
+
 -- WHAT IS WRONG WITH THE ROWS of a kind's table among the tables of logs
 abbrev pub WrongLogs : List Table → Kind → RowRefusal → Type 0
 WrongLogs tables kind wrong = RowDefect signal.Logs tables kind wrong
+
+-- nothing is wrong with the rows of any of the tables
+abbrev pub AreCleanLogs : List Table → Type 0
+AreCleanLogs tables = (kind : Kind) (why : RowRefusal) → WrongLogs tables kind why → ⊥

@@ -3,17 +3,15 @@ ghost use Rattle.std.specs.Prelude.{◌≡◌, ◌≤◌, min, IfErr, IfOk, OnOk
 ghost use Rattle.otlp_model.specs.declared.request.Signal.TheVariants as signal;
 ghost use Rattle.otlp_model.specs.Weight.{weight_of};
 ghost use Rattle.otlp_model.specs.declared.request.Request.TheVariants.{Logs};
-ghost use Rattle.otap_cells.specs.declared.payload.Kind.{Kind};
 ghost use Rattle.otap_cells.specs.declared.payload.Kind.TheVariants as table;
 ghost use Rattle.otap_cells.specs.Named.{table_named};
 ghost use Rattle.otap_groups.specs.Rows.{main_rows};
-ghost use Rattle.otap_attrs.specs.declared.refusal.RowRefusal.{RowRefusal};
 ghost use Rattle.otap_checks.specs.Refusing.{RefusesCheck};
 ghost use Rattle.otap_checks.specs.Regrouping.{RefusesRegroup};
 ghost use Rattle.otap_groups.specs.Groups.{regrouped};
 ghost use Rattle.otlp_model.specs.Limits.{weight_limit, count_cap};
 ghost use Rattle.otap_checks.specs.Known.{KnowsAll};
-ghost use Rattle.otap_logs.specs.Requests.{WrongLogs, regrouped_logs};
+ghost use Rattle.otap_logs.specs.Requests.{AreCleanLogs, WrongLogs, regrouped_logs, regrouped_weight};
 
 use crate::reading::Records;
 use otap_attrs::CheckRefusal;
@@ -34,8 +32,8 @@ type LogRows<'a, R> = Main<'a, R, LogReader<'a, R>, PairRows<'a, R>>;
 /// Looks at the rows of a batch of logs, and returns what their request weighs, or `CAP` where it is more. It builds nothing.
 /// Takes n log n for n rows.
 pub fn check_rows<R: Rows>(alloc: Global, set: &TableSet<R>) -> Result<u64, CheckRefusal>
-    ensures clean { OnOk result ((kind : Kind) (why : RowRefusal) → WrongLogs set.now kind why → ⊥) }
-    ensures weight { IfOk result (λ weight. weight ≡ min (weight_of (Logs (regrouped_logs set.now))) count_cap) }
+    ensures clean { OnOk result (AreCleanLogs set.now) }
+    ensures weight { IfOk result (λ weight. weight ≡ min (regrouped_weight set.now) count_cap) }
     ensures refused { IfErr result (RefusesCheck (WrongLogs set.now)) }
 {
     let known = checked_ids(alloc, set, Signal::Logs)?;
@@ -52,11 +50,11 @@ pub fn regroup<R: Rows>(
     alloc: Global,
     set: &TableSet<R>,
 ) -> Result<Grouped<LogRecord>, RegroupRefusal>
-    ensures clean { OnOk result ((kind : Kind) (why : RowRefusal) → WrongLogs set.now kind why → ⊥) }
+    ensures clean { OnOk result (AreCleanLogs set.now) }
     ensures groups { IfOk result (λ made. made.groups ≡ regrouped_logs set.now) }
     ensures tree { IfOk result (λ made. made.tree ≡ weight_of (Logs made.groups)) }
     ensures light { IfOk result (λ made. made.tree ≤ weight_limit) }
-    ensures refused { IfErr result (RefusesRegroup (WrongLogs set.now) (weight_of (Logs (regrouped_logs set.now)))) }
+    ensures refused { IfErr result (RefusesRegroup (WrongLogs set.now) (regrouped_weight set.now)) }
 {
     let known = checked_ids(alloc, set, Signal::Logs)?;
     let Some(rows) = set.get(Kind::Logs) else {
@@ -75,8 +73,8 @@ pub fn request_of<R: Rows>(
     alloc: Global,
     set: &TableSet<R>,
 ) -> Result<Items<ResourceGroup<LogRecord>>, AllocError>
-    requires clean { (kind : Kind) (why : RowRefusal) → WrongLogs set.now kind why → ⊥ }
-    requires light { weight_of (Logs (regrouped_logs set.now)) ≤ weight_limit }
+    requires clean { AreCleanLogs set.now }
+    requires light { regrouped_weight set.now ≤ weight_limit }
     ensures { IfOk result (λ groups. groups ≡ regrouped_logs set.now) }
 {
     match regroup(alloc, set) {
@@ -93,7 +91,7 @@ fn main_of<'a, R: Rows>(
     rows: &'a R,
     known: &'a KnownIds,
 ) -> Result<LogRows<'a, R>, AllocError>
-    requires clean { (kind : Kind) (why : RowRefusal) → WrongLogs set.now kind why → ⊥ }
+    requires clean { AreCleanLogs set.now }
     requires known { KnowsAll signal.Logs set.now known.now.columns.items }
     requires table { table_named table.Logs set.now ≡ R.table rows.now }
     requires kind { (R.table rows.now).kind ≡ table.Logs }

@@ -1,3 +1,5 @@
+pub mod Laws
+pub mod ReadingLaws
 pub mod Records
 pub mod Requests
 pub mod Tables

@@ -4,7 +4,9 @@ use Rattle.otlp_model.specs.declared.groups.ResourceGroup.{ResourceGroup}
 use Rattle.otlp_model.specs.declared.spans.Span.{Span}
 use Rattle.otlp_model.specs.declared.spans.Event.{Event}
 use Rattle.otlp_model.specs.declared.spans.Link.{Link}
+use Rattle.otlp_model.specs.declared.request.Request.TheVariants.{Traces}
 use Rattle.otlp_model.specs.declared.request.Signal.TheVariants as signal
+use Rattle.otlp_model.specs.Weight.{weight_of}
 use Rattle.otap_cells.specs.declared.payload.Kind.{Kind}
 use Rattle.otap_cells.specs.declared.payload.Kind.TheVariants as table
 use Rattle.otap_cells.specs.Cells.{Cell}
@@ -43,6 +45,14 @@ span_in tables id cells = span_of cells
 unfoldable pub regrouped_spans : List Table → List (ResourceGroup Span)
 regrouped_spans tables = regrouped_in table.Spans span_in tables
 
+-- what that request weighs
+abbrev pub regrouped_weight : List Table → ℕ
+regrouped_weight tables = weight_of (Traces (regrouped_spans tables))
+
 -- WHAT IS WRONG WITH THE ROWS of a kind's table among the tables of spans
 abbrev pub WrongSpans : List Table → Kind → RowRefusal → Type 0
 WrongSpans tables kind wrong = RowDefect signal.Traces tables kind wrong
+
+-- nothing is wrong with the rows of any of the tables
+abbrev pub AreCleanSpans : List Table → Type 0
+AreCleanSpans tables = (kind : Kind) (why : RowRefusal) → WrongSpans tables kind why → ⊥

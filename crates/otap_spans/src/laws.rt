@@ -1,56 +1,42 @@
 //! What the definitions mean, as functions that do nothing: each ensures a law for all requests.
-ghost use Rattle.std.specs.Prelude.{◌≡◌, ◌≤◌, ◌||◌, List, All, length, map, filter, nat_lt};
-ghost use Rattle.otlp_model.specs.Limits.{weight_limit};
-ghost use Rattle.otlp_model.specs.Profile.{IsProfile};
-ghost use Rattle.otlp_model.specs.Real.{IsReal};
+ghost use Rattle.std.specs.Prelude.{◌≤◌, List, All};
 ghost use Rattle.otlp_model.specs.Same.{Same};
-ghost use Rattle.otlp_model.specs.Telemetry.{telemetry};
 ghost use Rattle.otlp_model.specs.Weight.{weight_of};
 ghost use Rattle.otlp_model.specs.declared.groups.ResourceGroup.{ResourceGroup};
 ghost use Rattle.otlp_model.specs.declared.spans.Span.{Span};
 ghost use Rattle.otlp_model.specs.declared.request.Request.TheVariants.{Traces};
-ghost use Rattle.otlp_model.specs.declared.request.Signal.TheVariants as signal;
-ghost use Rattle.otap_cells.specs.declared.payload.Kind.{Kind};
-ghost use Rattle.otap_cells.specs.declared.payload.Kind.TheVariants as table;
-ghost use Rattle.otap_cells.specs.Named.{table_named};
-ghost use Rattle.otap_cells.specs.Payload.{is_kind, kinds_of, main_of};
 ghost use Rattle.otap_groups.specs.ProfileTables.{IsProfileTable};
-ghost use Rattle.otap_attrs.specs.declared.refusal.RowRefusal.{RowRefusal};
-ghost use Rattle.otap_spans.specs.Requests.{WrongSpans, regrouped_spans};
+ghost use Rattle.otap_spans.specs.Laws.{AreInKindOrder, ForProfileSpans, HasRowPerSpan, rebuilt_spans};
+ghost use Rattle.otap_spans.specs.Requests.{AreCleanSpans};
 ghost use Rattle.otap_spans.specs.Tables.{tables_of_spans};
 
 /// Law: the request that the tables of a request make says what the request says.
 pub fn tables_tell_the_same()
-    ensures { (groups : List (ResourceGroup Span)) → IsReal (Traces groups) → IsProfile (Traces groups) → weight_of (Traces groups) ≤ weight_limit
-        → Same (Traces groups) (Traces (regrouped_spans (tables_of_spans groups))) }
+    ensures { ForProfileSpans (λ groups. Same (Traces groups) (Traces (rebuilt_spans groups))) }
 {}
 
 /// Law: nothing is wrong with the rows of the tables of a request.
 pub fn tables_have_no_defects()
-    ensures { (groups : List (ResourceGroup Span)) → IsReal (Traces groups) → IsProfile (Traces groups) → weight_of (Traces groups) ≤ weight_limit
-        → (kind : Kind) (wrong : RowRefusal) → WrongSpans (tables_of_spans groups) kind wrong → ⊥ }
+    ensures { ForProfileSpans (λ groups. AreCleanSpans (tables_of_spans groups)) }
 {}
 
 /// Law: the tables of a request are tables of the profile, and have ids.
 pub fn tables_can_be_written()
-    ensures { (groups : List (ResourceGroup Span)) → IsReal (Traces groups) → IsProfile (Traces groups) → weight_of (Traces groups) ≤ weight_limit
-        → All IsProfileTable (tables_of_spans groups) }
+    ensures { ForProfileSpans (λ groups. All IsProfileTable (tables_of_spans groups)) }
 {}
 
 /// Law: the tables of a request are in the order of the signal's kinds: its main table, and of the others those that have
 /// rows.
 pub fn tables_by_type()
-    ensures { (groups : List (ResourceGroup Span)) → map (λ t. t.kind) (tables_of_spans groups)
-        ≡ filter (λ kind. is_kind kind (main_of signal.Traces) || nat_lt 0 (length (table_named kind (tables_of_spans groups)).rows)) (kinds_of signal.Traces) }
+    ensures { (groups : List (ResourceGroup Span)) → AreInKindOrder (tables_of_spans groups) }
 {}
 
 /// Law: the main table of a request has a row for each of its spans.
 pub fn each_span_has_a_row()
-    ensures { (groups : List (ResourceGroup Span)) → length (table_named table.Spans (tables_of_spans groups)).rows ≡ length (telemetry (Traces groups)) }
+    ensures { (groups : List (ResourceGroup Span)) → HasRowPerSpan (tables_of_spans groups) groups }
 {}
 
 /// Law: the request that the tables of a request make weighs no more than the request.
 pub fn tables_are_light()
-    ensures { (groups : List (ResourceGroup Span)) → IsReal (Traces groups) → IsProfile (Traces groups) → weight_of (Traces groups) ≤ weight_limit
-        → weight_of (Traces (regrouped_spans (tables_of_spans groups))) ≤ weight_of (Traces groups) }
+    ensures { ForProfileSpans (λ groups. weight_of (Traces (rebuilt_spans groups)) ≤ weight_of (Traces groups)) }
 {}

@@ -4,16 +4,14 @@ ghost use Rattle.otlp_model.specs.declared.request.Signal.TheVariants as signal;
 ghost use Rattle.otlp_model.specs.Limits.{weight_limit, count_cap};
 ghost use Rattle.otlp_model.specs.Weight.{weight_of};
 ghost use Rattle.otlp_model.specs.declared.request.Request.TheVariants.{Traces};
-ghost use Rattle.otap_cells.specs.declared.payload.Kind.{Kind};
 ghost use Rattle.otap_cells.specs.declared.payload.Kind.TheVariants as table;
 ghost use Rattle.otap_cells.specs.Named.{table_named};
 ghost use Rattle.otap_groups.specs.Groups.{regrouped};
 ghost use Rattle.otap_groups.specs.Rows.{main_rows};
-ghost use Rattle.otap_attrs.specs.declared.refusal.RowRefusal.{RowRefusal};
 ghost use Rattle.otap_checks.specs.Refusing.{RefusesCheck};
 ghost use Rattle.otap_checks.specs.Regrouping.{RefusesRegroup};
 ghost use Rattle.otap_checks.specs.Known.{KnowsAll};
-ghost use Rattle.otap_spans.specs.Requests.{WrongSpans, regrouped_spans};
+ghost use Rattle.otap_spans.specs.Requests.{AreCleanSpans, WrongSpans, regrouped_spans, regrouped_weight};
 
 use crate::below::{EventRows, LinkRows, find_events, find_links};
 use crate::reading::Spans;
@@ -35,8 +33,8 @@ type SpanRows<'a, R> = Main<'a, R, SpanReader<'a, R>, PairRows<'a, R>>;
 /// Looks at the rows of a batch of spans, and returns what their request weighs, or `CAP` where it is more. It builds nothing.
 /// Takes n log n for n rows.
 pub fn check_rows<R: Rows>(alloc: Global, set: &TableSet<R>) -> Result<u64, CheckRefusal>
-    ensures clean { OnOk result ((kind : Kind) (why : RowRefusal) → WrongSpans set.now kind why → ⊥) }
-    ensures weight { IfOk result (λ weight. weight ≡ min (weight_of (Traces (regrouped_spans set.now))) count_cap) }
+    ensures clean { OnOk result (AreCleanSpans set.now) }
+    ensures weight { IfOk result (λ weight. weight ≡ min (regrouped_weight set.now) count_cap) }
     ensures refused { IfErr result (RefusesCheck (WrongSpans set.now)) }
 {
     let known = checked_ids(alloc, set, Signal::Traces)?;
@@ -50,11 +48,11 @@ pub fn check_rows<R: Rows>(alloc: Global, set: &TableSet<R>) -> Result<u64, Chec
 /// The request of a batch of spans and what it weighs, where nothing is wrong with the rows and it weighs at most the limit.
 /// It is built only then. Takes n log n for n rows, and time in proportion to them where ids and parents rise or count from 0.
 pub fn regroup<R: Rows>(alloc: Global, set: &TableSet<R>) -> Result<Grouped<Span>, RegroupRefusal>
-    ensures clean { OnOk result ((kind : Kind) (why : RowRefusal) → WrongSpans set.now kind why → ⊥) }
+    ensures clean { OnOk result (AreCleanSpans set.now) }
     ensures groups { IfOk result (λ made. made.groups ≡ regrouped_spans set.now) }
     ensures tree { IfOk result (λ made. made.tree ≡ weight_of (Traces made.groups)) }
     ensures light { IfOk result (λ made. made.tree ≤ weight_limit) }
-    ensures refused { IfErr result (RefusesRegroup (WrongSpans set.now) (weight_of (Traces (regrouped_spans set.now)))) }
+    ensures refused { IfErr result (RefusesRegroup (WrongSpans set.now) (regrouped_weight set.now)) }
 {
     let known = checked_ids(alloc, set, Signal::Traces)?;
     let Some(rows) = set.get(Kind::Spans) else {
@@ -73,8 +71,8 @@ pub fn request_of<R: Rows>(
     alloc: Global,
     set: &TableSet<R>,
 ) -> Result<Items<ResourceGroup<Span>>, AllocError>
-    requires clean { (kind : Kind) (why : RowRefusal) → WrongSpans set.now kind why → ⊥ }
-    requires light { weight_of (Traces (regrouped_spans set.now)) ≤ weight_limit }
+    requires clean { AreCleanSpans set.now }
+    requires light { regrouped_weight set.now ≤ weight_limit }
     ensures { IfOk result (λ groups. groups ≡ regrouped_spans set.now) }
 {
     match regroup(alloc, set) {
@@ -91,7 +89,7 @@ fn main_of<'a, R: Rows>(
     rows: &'a R,
     known: &'a KnownIds,
 ) -> Result<SpanRows<'a, R>, AllocError>
-    requires clean { (kind : Kind) (why : RowRefusal) → WrongSpans set.now kind why → ⊥ }
+    requires clean { AreCleanSpans set.now }
     requires known { KnowsAll signal.Traces set.now known.now.columns.items }
     requires table { table_named table.Spans set.now ≡ R.table rows.now }
     requires kind { (R.table rows.now).kind ≡ table.Spans }
