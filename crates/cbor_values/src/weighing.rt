@@ -12,7 +12,7 @@ ghost use Rattle.cbor_values.specs.Returned.{TellsReading, TellsAll, long, pair_
 use crate::heads::{Head, after_break, part, read_head};
 use crate::refusal::CborRefusal;
 use crate::strings::{letters, octets_chunk, text_chunk};
-use otlp_model::{CAP, MAX_DEPTH, add_capped, capped_len};
+use otlp_model::{CAP, MAX_DEPTH, PART_WEIGHT, add_capped, capped_len};
 
 /// Whether a value holds others.
 #[derive(Clone, Copy, Debug, PartialEq, Eq)]
@@ -159,7 +159,7 @@ fn members(depth: u64, count: u64, bytes: &[u8]) -> Result<(u64, &[u8]), CborRef
     let mut rest = bytes;
     for _ in 0..count {
         let (member, after) = item(depth, rest)?;
-        weight = add_capped(weight, add_capped(32, member.weight));
+        weight = add_capped(weight, add_capped(PART_WEIGHT, member.weight));
         rest = after;
     }
     Ok((weight, rest))
@@ -177,7 +177,7 @@ fn open_members(depth: u64, bytes: &[u8]) -> Result<(u64, &[u8]), CborRefusal>
             return Ok((weight, after));
         }
         let (member, after) = item(depth, rest)?;
-        weight = add_capped(weight, add_capped(32, member.weight));
+        weight = add_capped(weight, add_capped(PART_WEIGHT, member.weight));
         rest = after;
     }
 }
@@ -191,7 +191,7 @@ fn pairs(depth: u64, count: u64, bytes: &[u8]) -> Result<(u64, &[u8]), CborRefus
     let mut rest = bytes;
     for _ in 0..count {
         let (own, after) = pair(depth, rest)?;
-        weight = add_capped(weight, add_capped(32, own));
+        weight = add_capped(weight, add_capped(PART_WEIGHT, own));
         rest = after;
     }
     Ok((weight, rest))
@@ -209,7 +209,7 @@ fn open_pairs(depth: u64, bytes: &[u8]) -> Result<(u64, &[u8]), CborRefusal>
             return Ok((weight, after));
         }
         let (own, after) = pair(depth, rest)?;
-        weight = add_capped(weight, add_capped(32, own));
+        weight = add_capped(weight, add_capped(PART_WEIGHT, own));
         rest = after;
     }
 }

@@ -17,7 +17,7 @@ use crate::refusal::RowRefusal;
 use crate::values::check_value;
 use otap_cells::{Kind, Rows, read_ids};
 use otap_groups::{ChildEntry, Children, RowReader};
-use otlp_model::{Items, Pair, add_capped};
+use otlp_model::{Items, PART_WEIGHT, Pair, add_capped};
 use std::alloc::{AllocError, Global};
 use std::marker::Model;
 
@@ -78,7 +78,7 @@ impl PairIndex {
         let entries = entries_of(&self.entries, parent);
         let mut weight = 0;
         'entries: for entry in entries {
-            weight = add_capped(weight, add_capped(32, self.weights[entry.place]));
+            weight = add_capped(weight, add_capped(PART_WEIGHT, self.weights[entry.place]));
         }
         weight
     }

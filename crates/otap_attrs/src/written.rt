@@ -14,7 +14,7 @@ ghost use Rattle.otap_attrs.specs.Values.{pair_cells, value_cells};
 use crate::pairs::{PlacedPair, place_pairs};
 use crate::sorting::coded_table;
 use cbor_values::len_value;
-use otap_cells::{Kind, LogicalTable, Rows};
+use otap_cells::{Kind, LogicalTable, ROW_UNIT, Rows};
 use otlp_model::{
     CAP, Event, Exemplar, HistPoint, Items, Link, LogRecord, Pair, Point, Resource, Scope, Span,
     SumPoint, Value, add_capped, capped_len,
@@ -176,7 +176,7 @@ pub fn attributes_weight(pairs: &Items<Pair>) -> u64
 {
     let mut weight = 0;
     'pairs: for pair in pairs.as_slice() {
-        weight = add_capped(weight, add_capped(32, pair_weight(pair)));
+        weight = add_capped(weight, add_capped(ROW_UNIT, pair_weight(pair)));
     }
     weight
 }

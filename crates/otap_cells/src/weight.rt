@@ -15,7 +15,7 @@ use otlp_model::{CAP, add_capped};
 pub const MAX_ROW_WEIGHT: u64 = 1 << 26;
 
 /// What a row weighs beside its cells.
-const ROW_UNIT: u64 = 32;
+pub const ROW_UNIT: u64 = 32;
 
 /// The row weight of a set of tables, or `CAP` where it is larger: a unit for each row, and the bytes of each text,
 /// binary and fixed cell that isn't null. Visits each of these cells once.

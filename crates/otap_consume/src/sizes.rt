@@ -9,7 +9,7 @@ ghost use Rattle.otap_consume.specs.StreamSteps.{held_of};
 
 use crate::refusal::{Cause, MAX_HELD};
 use crate::stream::Stream;
-use otap_cells::{MAX_ROW_WEIGHT, Rows, TableSet, main_of, row_weight};
+use otap_cells::{MAX_ROW_WEIGHT, ROW_UNIT, Rows, TableSet, main_of, row_weight};
 use otlp_model::{MAX_ITEMS, Signal, add_capped};
 
 /// The row weight of a set of tables, where it and the number of main rows are within their limits. No cell is visited
@@ -20,7 +20,7 @@ pub(crate) fn weigh<R: Rows>(signal: Signal, set: &TableSet<R>) -> Result<u64, C
     if main_rows(signal, set) > MAX_ITEMS {
         return Err(Cause::TooManyItems);
     }
-    if count_rows(set) > MAX_ROW_WEIGHT / 32 {
+    if count_rows(set) > MAX_ROW_WEIGHT / ROW_UNIT {
         return Err(Cause::RowsTooHeavy);
     }
     let weight = row_weight(set);

@@ -12,7 +12,7 @@ use crate::front::id_at;
 use crate::index::entries_of;
 use crate::reading::{Lookup, RowReader};
 use crate::starts::{part_of, starts_of};
-use otlp_model::{Items, add_capped};
+use otlp_model::{Items, PART_WEIGHT, add_capped};
 use std::alloc::{AllocError, Global};
 
 /// The rows of a table, found by their parents: the children of a parent come in the order of their rows.
@@ -89,7 +89,7 @@ impl<C: RowReader> Lookup for Children<'_, C> {
             let own = self
                 .reader
                 .weight(id_at(self.ids, entry.place), entry.place);
-            weight = add_capped(weight, add_capped(32, own));
+            weight = add_capped(weight, add_capped(PART_WEIGHT, own));
         }
         weight
     }

@@ -6,6 +6,7 @@ ghost use Rattle.otlp_model.specs.declared.groups.Scope.{Scope};
 ghost use Rattle.otap_groups.specs.Weighing.{CanWriteGroup, CanWriteScope, front_weight, rows_of_groups, rows_of_scope};
 
 use crate::sources::has_items;
+use otap_cells::ROW_UNIT;
 use otlp_model::{Resource, ResourceGroup, Scope, ScopeGroup, add_capped, sum_capped};
 
 /// What a request's rows weigh beside the fronts of its main rows: a number for each resource, scope and item.
@@ -116,7 +117,7 @@ fn front_weight(resource: &Resource, scope: &Scope) -> u64
     ensures { result ≡ min (front_weight resource.now scope.now) count_cap }
 {
     sum_capped(&[
-        32,
+        ROW_UNIT,
         resource.schema_url.len() as u64,
         scope.name.len() as u64,
         scope.version.len() as u64,

@@ -13,7 +13,7 @@ use crate::groups::Main;
 use crate::level::Level;
 use crate::reading::{Lookup, RowReader};
 use otap_cells::{Rows, bytes_in};
-use otlp_model::{Pair, add_capped, sum_capped};
+use otlp_model::{PART_WEIGHT, Pair, add_capped, sum_capped};
 
 impl<R: Rows, S: RowReader, P: Lookup<Child = Pair>> Main<'_, R, S, P> {
     /// What the groups of the request weigh, with 32 for each, or `CAP` where it is more. It builds nothing.
@@ -28,7 +28,7 @@ impl<R: Rows, S: RowReader, P: Lookup<Child = Pair>> Main<'_, R, S, P> {
         let to = self.front.len();
         'groups: while at < to {
             let end = self.front.run(Level::Resource, at, to);
-            weight = add_capped(weight, add_capped(32, self.group_weight(at, end)));
+            weight = add_capped(weight, add_capped(PART_WEIGHT, self.group_weight(at, end)));
             at = end;
         }
         weight
@@ -60,7 +60,10 @@ impl<R: Rows, S: RowReader, P: Lookup<Child = Pair>> Main<'_, R, S, P> {
         let mut at = from;
         'groups: while at < to {
             let end = self.front.run(Level::Scope, at, to);
-            weight = add_capped(weight, add_capped(32, self.scope_group_weight(at, end)));
+            weight = add_capped(
+                weight,
+                add_capped(PART_WEIGHT, self.scope_group_weight(at, end)),
+            );
             at = end;
         }
         weight
@@ -86,7 +89,7 @@ impl<R: Rows, S: RowReader, P: Lookup<Child = Pair>> Main<'_, R, S, P> {
         let mut weight = 0;
         'items: for place in from..to {
             let own = self.items.weight(id_at(self.front.ids, place), place);
-            weight = add_capped(weight, add_capped(32, own));
+            weight = add_capped(weight, add_capped(PART_WEIGHT, own));
         }
         weight
     }

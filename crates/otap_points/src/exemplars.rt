@@ -16,7 +16,9 @@ ghost use Rattle.otap_points.specs.Writable.{CanWriteExemplar};
 use crate::columns::exemplar;
 use crate::numbers::{double_value, id_cell, int_value, measured_at};
 use otap_attrs::attributes_weight;
-use otap_cells::{Kind, LogicalTable, Rows, bits_cell, bits_in, bytes_in, octets_cell, octets_in};
+use otap_cells::{
+    Kind, LogicalTable, ROW_UNIT, Rows, bits_cell, bits_in, bytes_in, octets_cell, octets_in,
+};
 use otap_groups::{Lookup, PartWeights, PartWriter, PartsOf, RowReader};
 use otlp_model::{Exemplar, HistPoint, Pair, Point, add_capped, sum_capped};
 use std::alloc::{AllocError, Global};
@@ -173,7 +175,7 @@ impl PartWeights for ExemplarWeights {
     ghost CanWrite = { CanWriteExemplar };
 
     fn part(&self, exemplar: &Exemplar) -> u64 {
-        let own = add_capped(32, exemplar_cells_weight(exemplar));
+        let own = add_capped(ROW_UNIT, exemplar_cells_weight(exemplar));
         add_capped(own, attributes_weight(&exemplar.pairs))
     }
 }

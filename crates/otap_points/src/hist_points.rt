@@ -15,7 +15,9 @@ use crate::exemplars::ExemplarWeights;
 use crate::number_lists::{bytes_of, list_at, list_cell, list_weight};
 use crate::numbers::{id_cell, optional_at, optional_cell};
 use otap_attrs::attributes_weight;
-use otap_cells::{Kind, LogicalTable, Rows, bits_cell, bits_in, bytes_in, number_cell, number_in};
+use otap_cells::{
+    Kind, LogicalTable, ROW_UNIT, Rows, bits_cell, bits_in, bytes_in, number_cell, number_in,
+};
 use otap_groups::{Lookup, PartWeights, PartWriter, RowReader, part_rows_weight};
 use otlp_model::{Exemplar, HistPoint, Pair, add_capped, sum_capped};
 use std::alloc::{AllocError, Global};
@@ -131,7 +133,7 @@ impl PartWeights for HistPointWeights {
     ghost CanWrite = { CanWriteHistPoint };
 
     fn part(&self, point: &HistPoint) -> u64 {
-        let own = add_capped(32, hist_cells_weight(point));
+        let own = add_capped(ROW_UNIT, hist_cells_weight(point));
         let below = add_capped(
             attributes_weight(&point.pairs),
             part_rows_weight(&ExemplarWeights, point.exemplars.as_slice()),

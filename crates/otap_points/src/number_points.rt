@@ -12,7 +12,7 @@ use crate::columns::point;
 use crate::exemplars::ExemplarWeights;
 use crate::numbers::{double_value, id_cell, int_value, measured_at};
 use otap_attrs::attributes_weight;
-use otap_cells::{Kind, LogicalTable, Rows, bits_cell, bits_in, number_cell, number_in};
+use otap_cells::{Kind, LogicalTable, ROW_UNIT, Rows, bits_cell, bits_in, number_cell, number_in};
 use otap_groups::{Lookup, PartWeights, PartWriter, RowReader, part_rows_weight};
 use otlp_model::{Exemplar, Pair, Point, add_capped, sum_capped};
 use std::alloc::{AllocError, Global};
@@ -114,6 +114,6 @@ impl PartWeights for PointWeights {
             attributes_weight(&point.pairs),
             part_rows_weight(&ExemplarWeights, point.exemplars.as_slice()),
         );
-        add_capped(32, below)
+        add_capped(ROW_UNIT, below)
     }
 }

@@ -15,7 +15,9 @@ use crate::number_lists::{
 };
 use crate::numbers::id_cell;
 use otap_attrs::attributes_weight;
-use otap_cells::{Kind, LogicalTable, Rows, bits_cell, bits_in, bytes_in, number_cell, number_in};
+use otap_cells::{
+    Kind, LogicalTable, ROW_UNIT, Rows, bits_cell, bits_in, bytes_in, number_cell, number_in,
+};
 use otap_groups::{Lookup, PartWeights, PartWriter, RowReader};
 use otlp_model::{Pair, SumPoint, add_capped, sum_capped};
 use std::alloc::{AllocError, Global};
@@ -122,7 +124,7 @@ impl PartWeights for SumPointWeights {
     ghost CanWrite = { CanWriteSumPoint };
 
     fn part(&self, point: &SumPoint) -> u64 {
-        let own = add_capped(32, summary_cells_weight(point));
+        let own = add_capped(ROW_UNIT, summary_cells_weight(point));
         add_capped(own, attributes_weight(&point.pairs))
     }
 }

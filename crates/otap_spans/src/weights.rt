@@ -14,6 +14,7 @@ ghost use Rattle.otap_spans.specs.Weighing.{below_weight, event_weight, link_wei
 
 use crate::writers::{event_weight, link_weight, span_weight};
 use otap_attrs::attributes_weight;
+use otap_cells::ROW_UNIT;
 use otap_groups::{PartWeights, RowWeights, part_rows_weight, rows_weight};
 use otlp_model::{
     Event, Items, Link, Resource, ResourceGroup, Scope, Span, add_capped, sum_capped,
@@ -86,7 +87,7 @@ impl PartWeights for EventWeights {
     fn part(&self, event: &Event) -> u64 {
         let own = event_weight(event);
         let pairs = attributes_weight(&event.pairs);
-        sum_capped(&[32, own, pairs])
+        sum_capped(&[ROW_UNIT, own, pairs])
     }
 }
 
@@ -104,6 +105,6 @@ impl PartWeights for LinkWeights {
     fn part(&self, link: &Link) -> u64 {
         let own = link_weight(link);
         let pairs = attributes_weight(&link.pairs);
-        sum_capped(&[32, own, pairs])
+        sum_capped(&[ROW_UNIT, own, pairs])
     }
 }

@@ -7,7 +7,7 @@ use crate::limits::sum_capped;
 use crate::profile::{Profiled, all_profile};
 use crate::sameness::{Alike, same_pairs};
 use crate::value::Pair;
-use crate::weights::{HasWeight, PART, pairs_weight, parts_weight};
+use crate::weights::{HasWeight, PART_WEIGHT, pairs_weight, parts_weight};
 use lists::{Items, Text};
 
 /// What telemetry comes from (OTLP `Resource`, with the schema url of its `ResourceSpans`, `ResourceLogs` or
@@ -82,7 +82,7 @@ impl<I: HasWeight> HasWeight for ScopeGroup<I> {
     fn weight(&self) -> u64 {
         sum_capped(&[
             self.scope.weight(),
-            parts_weight(PART, self.items.as_slice()),
+            parts_weight(PART_WEIGHT, self.items.as_slice()),
         ])
     }
 }
@@ -95,7 +95,7 @@ impl<I: HasWeight> HasWeight for ResourceGroup<I> {
     fn weight(&self) -> u64 {
         sum_capped(&[
             self.resource.weight(),
-            parts_weight(PART, self.scopes.as_slice()),
+            parts_weight(PART_WEIGHT, self.scopes.as_slice()),
         ])
     }
 }

@@ -11,7 +11,7 @@ use crate::metrics::Exemplar;
 use crate::profile::{Profiled, all_profile};
 use crate::sameness::{Alike, each_same, same_pairs};
 use crate::value::Pair;
-use crate::weights::{HasWeight, PART, pairs_weight, parts_weight};
+use crate::weights::{HasWeight, PART_WEIGHT, pairs_weight, parts_weight};
 use lists::Items;
 
 /// What a bucket count and a bound weigh.
@@ -93,7 +93,7 @@ impl HasWeight for HistPoint {
             numbers_weight(self.buckets.as_slice()),
             numbers_weight(self.bounds.as_slice()),
             pairs_weight(self.pairs.as_slice()),
-            parts_weight(PART, self.exemplars.as_slice()),
+            parts_weight(PART_WEIGHT, self.exemplars.as_slice()),
         ])
     }
 }

@@ -4,7 +4,7 @@ ghost use Rattle.std.specs.Prelude.{◌≡◌, ◌≢◌, ◌↔◌, [], List, I
 ghost use Rattle.otlp_model.specs.Equal.{pair_is, occurrences};
 ghost use Rattle.otlp_model.specs.declared.histograms.TheConstants.{NUMBER, QUANTILE};
 ghost use Rattle.otlp_model.specs.declared.limits.TheConstants.{MAX_ITEMS, MAX_TREE_WEIGHT, MAX_DEPTH, CAP};
-ghost use Rattle.otlp_model.specs.declared.weights.TheConstants.{PART};
+ghost use Rattle.otlp_model.specs.declared.weights.TheConstants.{PART_WEIGHT};
 ghost use Rattle.otlp_model.specs.Limits.{item_limit, weight_limit, depth_limit, count_cap, part_weight, number_weight, quantile_weight};
 ghost use Rattle.otlp_model.specs.Same.{Same, SameOften};
 ghost use Rattle.otlp_model.specs.Telemetry.{telemetry, signal_of, with_items};
@@ -17,7 +17,7 @@ pub fn limits()
     ensures weight { MAX_TREE_WEIGHT ≡ weight_limit }
     ensures depth { MAX_DEPTH ≡ depth_limit }
     ensures cap { CAP ≡ count_cap }
-    ensures part { PART ≡ part_weight }
+    ensures part { PART_WEIGHT ≡ part_weight }
     ensures number { NUMBER ≡ number_weight }
     ensures quantile { QUANTILE ≡ quantile_weight }
 {}

@@ -27,4 +27,4 @@ pub use metrics::{Exemplar, Metric, Number, Point, Shape};
 pub use request::{Request, Signal, is_profile, items, same, weight};
 pub use spans::{Event, Link, Span};
 pub use value::{Pair, Value};
-pub use weights::value_weight;
+pub use weights::{PART_WEIGHT, value_weight};

@@ -9,7 +9,7 @@ use crate::limits::sum_capped;
 use crate::profile::{Profiled, all_profile, is_span_id, is_trace_id};
 use crate::sameness::{Alike, each_same, same_pairs};
 use crate::value::Pair;
-use crate::weights::{HasWeight, PART, pairs_weight, parts_weight};
+use crate::weights::{HasWeight, PART_WEIGHT, pairs_weight, parts_weight};
 use lists::{Items, Octets, Text};
 
 /// A metric (OTLP `Metric`).
@@ -114,7 +114,7 @@ impl HasWeight for Point {
         sum_capped(&[
             self.value.weight(),
             pairs_weight(self.pairs.as_slice()),
-            parts_weight(PART, self.exemplars.as_slice()),
+            parts_weight(PART_WEIGHT, self.exemplars.as_slice()),
         ])
     }
 }
@@ -127,23 +127,23 @@ impl HasWeight for Shape {
     fn weight(&self) -> u64 {
         match self {
             Shape::Empty => 0,
-            Shape::Gauge(points) => parts_weight(PART, points.as_slice()),
+            Shape::Gauge(points) => parts_weight(PART_WEIGHT, points.as_slice()),
             Shape::Sum {
                 points,
                 temporality,
                 ..
             } => {
                 let _temporality = *temporality;
-                parts_weight(PART, points.as_slice())
+                parts_weight(PART_WEIGHT, points.as_slice())
             }
             Shape::Histogram {
                 points,
                 temporality,
             } => {
                 let _temporality = *temporality;
-                parts_weight(PART, points.as_slice())
+                parts_weight(PART_WEIGHT, points.as_slice())
             }
-            Shape::Summary(points) => parts_weight(PART, points.as_slice()),
+            Shape::Summary(points) => parts_weight(PART_WEIGHT, points.as_slice()),
         }
     }
 }

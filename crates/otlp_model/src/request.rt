@@ -13,7 +13,7 @@ use crate::metrics::Metric;
 use crate::profile::all_profile;
 use crate::spans::Span;
 use crate::walk::same_groups;
-use crate::weights::{PART, parts_weight};
+use crate::weights::{PART_WEIGHT, parts_weight};
 use lists::Items;
 
 /// The kinds of telemetry.
@@ -68,9 +68,9 @@ pub fn weight(request: &Request) -> u64
     ensures real { IsReal request.now }
 {
     match request {
-        Request::Traces(groups) => parts_weight(PART, groups.as_slice()),
-        Request::Logs(groups) => parts_weight(PART, groups.as_slice()),
-        Request::Metrics(groups) => parts_weight(PART, groups.as_slice()),
+        Request::Traces(groups) => parts_weight(PART_WEIGHT, groups.as_slice()),
+        Request::Logs(groups) => parts_weight(PART_WEIGHT, groups.as_slice()),
+        Request::Metrics(groups) => parts_weight(PART_WEIGHT, groups.as_slice()),
     }
 }
 

@@ -7,7 +7,7 @@ use crate::limits::sum_capped;
 use crate::profile::{Profiled, all_profile, is_span_id, is_trace_id};
 use crate::sameness::{Alike, each_same, same_pairs};
 use crate::value::Pair;
-use crate::weights::{HasWeight, PART, pairs_weight, parts_weight};
+use crate::weights::{HasWeight, PART_WEIGHT, pairs_weight, parts_weight};
 use lists::{Items, Octets, Text};
 
 /// A span (OTLP `Span`). Times are nanoseconds since the Unix epoch.
@@ -103,8 +103,8 @@ impl HasWeight for Span {
             self.name.weight(),
             self.status_message.weight(),
             pairs_weight(self.pairs.as_slice()),
-            parts_weight(PART, self.events.as_slice()),
-            parts_weight(PART, self.links.as_slice()),
+            parts_weight(PART_WEIGHT, self.events.as_slice()),
+            parts_weight(PART_WEIGHT, self.links.as_slice()),
         ])
     }
 }

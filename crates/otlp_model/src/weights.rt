@@ -11,7 +11,7 @@ use crate::value::{Pair, Value};
 use lists::{Octets, Text};
 
 /// What a part of a request weighs, beside its texts, byte strings and numbers.
-pub(crate) const PART: u64 = 32;
+pub const PART_WEIGHT: u64 = 32;
 
 /// The weight of a value, or `CAP` where it is larger: the bytes of its texts, byte strings and keys, and 32 for each
 /// member of an array or a key-value list.
@@ -48,7 +48,7 @@ fn members_weight(members: &[Value]) -> u64
 {
     let mut weight = 0;
     for member in members {
-        weight = add_capped(weight, add_capped(PART, value_weight(member)));
+        weight = add_capped(weight, add_capped(PART_WEIGHT, value_weight(member)));
     }
     weight
 }
@@ -62,7 +62,7 @@ pub(crate) fn pairs_weight(pairs: &[Pair]) -> u64
     let mut weight = 0;
     for pair in pairs {
         let own = add_capped(pair.key.weight(), value_weight(&pair.value));
-        weight = add_capped(weight, add_capped(PART, own));
+        weight = add_capped(weight, add_capped(PART_WEIGHT, own));
     }
     weight
 }
