@@ -14,6 +14,7 @@ use Rattle.otap_signals.specs.Regroups.{IsLight}
 use Rattle.otap_signals.specs.declared.regrouped.Regrouped.{Regrouped}
 use Rattle.otap_consume.specs.declared.not_taken.NotTaken.{NotTaken}
 use Rattle.otap_consume.specs.declared.not_taken.NotTaken.TheVariants.{Defect, Memory}
+use Rattle.otap_consume.specs.declared.opened.Checked.{Checked}
 use Rattle.otap_consume.specs.declared.refusal.Cause.{Cause}
 use Rattle.otap_consume.specs.declared.refusal.Refusal.{Refusal}
 use Rattle.otap_consume.specs.declared.seen.Seen.{Seen}
@@ -21,8 +22,8 @@ use Rattle.otap_consume.specs.declared.seen.Seen.TheVariants as seen
 use Rattle.otap_consume.specs.declared.taken.Taken.TheVariants as taken
 use Rattle.otap_consume.specs.Defects.{Refuses, tables_of}
 use Rattle.otap_consume.specs.LateStages.{HasFineRows}
-use Rattle.otap_consume.specs.Opening.{AreWithinLimits, IsLateDefect, IsOverLimit, LeadsTo, OpensAfter, OpensFrame, StopsBySize, Weighs, refusal_by}
-use Rattle.otap_consume.specs.Outcomes.{Outcome, Accepted, GivesOutcome, OutcomeAfter, payloads_after, refused, refusal_of}
+use Rattle.otap_consume.specs.Opening.{AreWithinLimits, HasLateDefect, IsChecked, IsLateDefect, IsOverLimit, LeadsTo, NextOutcome, OpensAfter, OpensFrame, StopsBySize, Weighs, refusal_by}
+use Rattle.otap_consume.specs.Outcomes.{Outcome, Accepted, Refused, GivesOutcome, OutcomeAfter, payloads_after, refused, refusal_of}
 use Rattle.otap_consume.specs.ReceiverInside.{MakesRequest}
 use Rattle.otap_consume.specs.Receivers.{Receives}
 use Rattle.otap_consume.specs.Receiving.{ReceivedAfter, Settles}
@@ -30,6 +31,7 @@ use Rattle.otap_consume.specs.Segments.{IsTaken, SegmentIn, StandsFor, Next}
 use Rattle.otap_consume.specs.Streams.{AreAfter}
 use Rattle.otap_consume.specs.Taking.{AcceptsAfter, NextBatch}
 use Rattle.otap_consume.specs.Untaken.{SaysDefect}
+use Rattle.otap_consume.proofs.Regrouping.{receives_outcome}
 use Rattle.otap_consume.proofs.SegmentSteps.{broken_accepted, next_accepted, payloads_accepted, stands_broken, stopped_parts, when_whole}
 use Rattle.otap_consume.proofs.Stages.{by_size}
 
@@ -154,6 +156,38 @@ module _ (old mid : SegmentIn) (frame : Frame) (batch : BatchContent) (o : Opens
           (same_signal new broken) (is_broken new broken);
     }
 
+  -- ---- its outcome, whichever came before it
+
+  -- it is checked
+  pub outcome_checked : (made : Checked) → IsChecked mid.signal mid.streams batch.payloads made
+      → NextOutcome (meaning_by old.signal) old frame (Accepted batch made.tables) mid
+  outcome_checked made checked = record {
+    at = λ outcomes stands.
+        let past : List PayloadIn = payloads_after outcomes in
+        let before : AreAfter past old.streams = stands.streams o.opens.was_whole in
+        let same : made.tables ≡ tables_of old.signal past batch.payloads
+        = of_opened (λ s past. made.tables ≡ tables_of s past batch.payloads) checked.tables past before in
+        let fine : HasFineRows (meaning_by old.signal) made.tables
+        = subst (λ (s : Signal). HasFineRows (meaning_by s) made.tables) o.opens.same checked.fine in
+        subst (λ (tables : List Table). LeadsTo (meaning_by old.signal) outcomes frame (Accepted batch tables) mid) (sym same)
+        (accepted_rows outcomes stands (of_opened (λ s past. AreWithinLimits s past batch.payloads) checked.within past before)
+        (subst (λ (tables : List Table). HasFineRows (meaning_by old.signal) tables) same fine));
+  }
+
+  -- it is not taken, for this reason
+  pub outcome_not_taken : (new : SegmentIn) (why : NotTaken) (refusal : Refusal) → new ≡ record mid { broken = true }
+      → refusal_by batch why ≡ Ok refusal → HasLateDefect mid.signal mid.streams batch.payloads why
+      → NextOutcome (meaning_by old.signal) old frame (Refused refusal) new
+  outcome_not_taken new (Defect cause payload) refusal broken is stops =
+      subst (λ (r : Refusal). NextOutcome (meaning_by old.signal) old frame (Refused r) new) (cc is)
+      (record {
+        at = λ outcomes stands.
+            refused_rows outcomes stands new cause payload broken
+            (of_opened (λ s past. IsLateDefect s past batch.payloads cause payload) stops (payloads_after outcomes)
+            (stands.streams o.opens.was_whole));
+      })
+  outcome_not_taken new (Memory e) refusal broken is stops = absurd (cc is)
+
   -- ---- what a receiver returns
 
   pub received_made : (rows : ℕ) (kept : Regrouped) → IsLight kept
@@ -180,19 +214,7 @@ module _ (old mid : SegmentIn) (frame : Frame) (batch : BatchContent) (o : Opens
 
   -- the batch is not taken, for this reason
   pub received_refused : (new : SegmentIn) (why : NotTaken) (refusal : Refusal) → new ≡ record mid { broken = true }
-      → refusal_by batch why ≡ Ok refusal
-      → ((past : List PayloadIn) → AreAfter (past ++ batch.payloads) mid.streams
-      → SaysDefect (IsLateDefect mid.signal past batch.payloads) why)
+      → refusal_by batch why ≡ Ok refusal → HasLateDefect mid.signal mid.streams batch.payloads why
       → Receives (meaning_by old.signal) old frame new (taken.Refused refusal)
-  received_refused new (Defect cause payload) refusal broken is stops =
-      subst (λ (r : Refusal). Receives (meaning_by old.signal) old frame new (taken.Refused r)) (cc is)
-      (record {
-        at = λ outcomes stands.
-            let wrong : IsLateDefect old.signal (payloads_after outcomes) batch.payloads cause payload
-            = of_opened (λ s past. IsLateDefect s past batch.payloads cause payload) stops (payloads_after outcomes)
-            (stands.streams o.opens.was_whole) in
-            let leads : LeadsTo (meaning_by old.signal) outcomes frame (refused (Some batch.id) cause payload) new
-            = refused_rows outcomes stands new cause payload broken wrong in
-            record { outcome = refused (Some batch.id) cause payload; gives = leads.gives; reports = refl; stands = leads.stands };
-      })
-  received_refused new (Memory e) refusal broken is stops = absurd (cc is)
+  received_refused new why refusal broken is stops =
+      receives_outcome (meaning_by old.signal) frame (Refused refusal) old new (outcome_not_taken new why refusal broken is stops)

@@ -1,4 +1,4 @@
--- The batch that a segment accepted, and what a receiver returns for a frame that its segment refuses, or for a reset.
+-- The batch that a segment accepted, and the outcome of a frame that the segment refuses, or of a reset.
 use Rattle.std.proofs.Common.{◌≡◌, Bool, true, false, List, ◌∷◌, ◌++◌, [], refl, sym, ap, ◌∙◌, subst, ℕ}
 use Rattle.std.specs.Prelude.{MatchBool}
 use Rattle.lists.specs.Payloads.{PayloadIn}
@@ -12,7 +12,8 @@ use Rattle.otap_consume.specs.declared.taken.Taken.TheVariants as taken
 use Rattle.otap_consume.specs.Defects.{Accepts, tables_of}
 use Rattle.otap_signals.specs.Meanings.{Meaning}
 use Rattle.otap_consume.specs.Outcomes.{Outcome, Accepted, Refused, Reset, GivesOutcome, StaysBroken, OutcomeAfter, is_broken, payloads_after}
-use Rattle.otap_consume.specs.Receivers.{HasReceived, Receives}
+use Rattle.otap_consume.specs.Opening.{LeadsTo, NextOutcome}
+use Rattle.otap_consume.specs.Receivers.{Receives, taken_of}
 use Rattle.otap_consume.specs.Receiving.{Settles}
 use Rattle.otap_consume.specs.Segments.{SegmentIn, StandsFor, ReportsOutcome, HasNext, Next}
 
@@ -59,37 +60,59 @@ accepted_batch signal outcomes frame batch tables after = go (is_broken outcomes
     go true is stays = absurd (not_broken frame (Accepted batch tables) batch tables refl stays)
     go false is gives = (is, batch_given signal (payloads_after outcomes) frame (Accepted batch tables) batch tables refl gives)
 
--- ---- the next frame of a receiver
+-- ---- the next frame, where no batch is opened
 
 from_refused : (m : Meaning) (outcomes : List Outcome) (frame : Frame) (outcome : Outcome) (refusal : Refusal) (new : SegmentIn)
     → OutcomeAfter m.signal outcomes frame outcome → ReportsOutcome outcome (seen.Refused refusal) → StandsFor m.signal (outcomes ++ outcome ∷ []) new
-    → HasReceived m outcomes frame new (taken.Refused refusal)
+    → LeadsTo m outcomes frame (Refused refusal) new
 from_refused m outcomes frame (Accepted batch tables) refusal new after reports stands = absurd reports
 from_refused m outcomes frame (Refused reported) refusal new after reports stands =
-    record { outcome = Refused reported; gives = record { seen = Refused reported; gives = after; settles = Settles.stays_refused reported }; reports = ap (λ (r : Refusal). taken.Refused r) reports; stands = stands }
+    subst (λ (r : Refusal). LeadsTo m outcomes frame (Refused r) new) (sym reports)
+    (record { gives = record { seen = Refused reported; gives = after; settles = Settles.stays_refused reported }; stands = stands })
 from_refused m outcomes frame Reset refusal new after reports stands = absurd reports
 
-pub receives_refused : (m : Meaning) (frame : Frame) (refusal : Refusal) (seg old new : SegmentIn) → seg ≡ old
-    → Next seg frame new (seen.Refused refusal) → Receives m old frame new (taken.Refused refusal)
-receives_refused m frame refusal seg old new view next = record {
+pub outcome_refused : (m : Meaning) (frame : Frame) (refusal : Refusal) (old new : SegmentIn) → Next old frame new (seen.Refused refusal)
+    → NextOutcome m old frame (Refused refusal) new
+outcome_refused m frame refusal old new next = record {
   at = λ outcomes stands.
-      let n : HasNext m.signal outcomes frame (seen.Refused refusal) new
-      = next.at m.signal outcomes (subst (StandsFor m.signal outcomes) (sym view) stands) in
+      let n : HasNext m.signal outcomes frame (seen.Refused refusal) new = next.at m.signal outcomes stands in
       from_refused m outcomes frame n.outcome refusal new n.gives n.reports n.stands;
 }
 
 from_reset : (m : Meaning) (outcomes : List Outcome) (frame : Frame) (outcome : Outcome) (new : SegmentIn)
-    → OutcomeAfter m.signal outcomes frame outcome → ReportsOutcome outcome seen.Reset → StandsFor m.signal (outcomes ++ outcome ∷ []) new → HasReceived m outcomes frame new taken.Reset
+    → OutcomeAfter m.signal outcomes frame outcome → ReportsOutcome outcome seen.Reset → StandsFor m.signal (outcomes ++ outcome ∷ []) new
+    → LeadsTo m outcomes frame Reset new
 from_reset m outcomes frame (Accepted batch tables) new after reports stands = absurd reports
 from_reset m outcomes frame (Refused reported) new after reports stands = absurd reports
 from_reset m outcomes frame Reset new after reports stands =
-    record { outcome = Reset; gives = record { seen = Reset; gives = after; settles = Settles.resets }; reports = refl; stands = stands }
+    record { gives = record { seen = Reset; gives = after; settles = Settles.resets }; stands = stands }
+
+pub outcome_reset : (m : Meaning) (frame : Frame) (old new : SegmentIn) → Next old frame new seen.Reset → NextOutcome m old frame Reset new
+outcome_reset m frame old new next = record {
+  at = λ outcomes stands.
+      let n : HasNext m.signal outcomes frame seen.Reset new = next.at m.signal outcomes stands in
+      from_reset m outcomes frame n.outcome new n.gives n.reports n.stands;
+}
+
+-- ---- the next frame of a receiver
+
+-- it returns what is returned for the outcome
+pub receives_outcome : (m : Meaning) (frame : Frame) (outcome : Outcome) (old new : SegmentIn) → NextOutcome m old frame outcome new
+    → Receives m old frame new (taken_of m outcome)
+receives_outcome m frame outcome old new next = record {
+  at = λ outcomes stands.
+      let l : LeadsTo m outcomes frame outcome new = next.at outcomes stands in
+      record { outcome = outcome; gives = l.gives; reports = refl; stands = l.stands };
+}
+
+pub receives_refused : (m : Meaning) (frame : Frame) (refusal : Refusal) (seg old new : SegmentIn) → seg ≡ old
+    → Next seg frame new (seen.Refused refusal) → Receives m old frame new (taken.Refused refusal)
+receives_refused m frame refusal seg old new view next =
+    subst (λ (s : SegmentIn). Receives m s frame new (taken.Refused refusal)) view
+    (receives_outcome m frame (Refused refusal) seg new (outcome_refused m frame refusal seg new next))
 
 pub receives_reset : (m : Meaning) (frame : Frame) (seg old new : SegmentIn) → seg ≡ old → Next seg frame new seen.Reset
     → Receives m old frame new taken.Reset
-receives_reset m frame seg old new view next = record {
-  at = λ outcomes stands.
-      let n : HasNext m.signal outcomes frame seen.Reset new
-      = next.at m.signal outcomes (subst (StandsFor m.signal outcomes) (sym view) stands) in
-      from_reset m outcomes frame n.outcome new n.gives n.reports n.stands;
-}
+receives_reset m frame seg old new view next =
+    subst (λ (s : SegmentIn). Receives m s frame new taken.Reset) view
+    (receives_outcome m frame Reset seg new (outcome_reset m frame seg new next))

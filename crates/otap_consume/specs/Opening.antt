@@ -2,14 +2,16 @@
 use Rattle.std.specs.Prelude.{◌≡◌, ◌⊎◌, ℕ, ℤ, false, List, [], ◌∷◌, ◌++◌, Option, Some, Result, Ok, Err}
 use Rattle.std.specs.declared.alloc.AllocError.{AllocError}
 use Rattle.lists.specs.Payloads.{PayloadIn}
+use Rattle.otlp_model.specs.Weight.{weight_of}
 use Rattle.otlp_model.specs.declared.request.Signal.{Signal}
 use Rattle.otap_capture.specs.Batch.{BatchContent, ReadsBatch}
 use Rattle.otap_capture.specs.Capture.{Frame, Message}
 use Rattle.otap_cells.specs.Weights.{weight_of_tables}
-use Rattle.otap_signals.specs.BySignal.{meaning_by}
+use Rattle.otap_signals.specs.BySignal.{meaning_by, request_in}
 use Rattle.otap_signals.specs.Meanings.{Meaning}
 use Rattle.otap_consume.specs.declared.not_taken.NotTaken.{NotTaken}
 use Rattle.otap_consume.specs.declared.not_taken.NotTaken.TheVariants.{Defect, Memory}
+use Rattle.otap_consume.specs.declared.opened.Checked.{Checked}
 use Rattle.otap_consume.specs.declared.opened.Opened.{Opened}
 use Rattle.otap_consume.specs.declared.opened.Opened.TheVariants as opened
 use Rattle.otap_consume.specs.declared.opened.Weighed.{Weighed}
@@ -17,10 +19,11 @@ use Rattle.otap_consume.specs.declared.refusal.Cause.{Cause}
 use Rattle.otap_consume.specs.declared.refusal.Refusal.{Refusal}
 use Rattle.otap_consume.specs.declared.seen.Seen.TheVariants as seen
 use Rattle.otap_consume.specs.Defects.{HasFineList, HasFineRecords, IsTooLarge, IsWithinLimits, held_after, tables_of}
-use Rattle.otap_consume.specs.LateStages.{IsDefectOfRows}
+use Rattle.otap_consume.specs.LateStages.{HasFineRows, IsDefectOfRows}
 use Rattle.otap_consume.specs.Outcomes.{Outcome, refusal_of}
 use Rattle.otap_consume.specs.Receiving.{ReceivedAfter}
 use Rattle.otap_consume.specs.Segments.{SegmentIn, StandsFor, Next, CanShow}
+use Rattle.otap_consume.specs.Sizes.{WithinLimits}
 use Rattle.otap_consume.specs.Streams.{StreamIn, AreAfter}
 use Rattle.otap_consume.specs.Untaken.{SaysDefect, IsOfSize}
 
@@ -74,6 +77,7 @@ StopsBySize signal past payloads = SaysDefect (IsOfSize (AreTooLarge signal past
 pub record IsWeighed (signal : Signal) (streams : List StreamIn) (payloads : List PayloadIn) (made : Weighed) : Type 0 where
   pub tables : (past : List PayloadIn) → AreAfter (past ++ payloads) streams → made.tables ≡ tables_of signal past payloads
   pub weighs : (past : List PayloadIn) → AreAfter (past ++ payloads) streams → Weighs signal past payloads made.rows
+  pub limits : WithinLimits signal made.tables made.rows
 
 -- or they are too large
 abbrev pub IsOverLimit : Signal → List StreamIn → List PayloadIn → NotTaken → Type 0
@@ -88,6 +92,20 @@ IsLateDefect signal past payloads cause payload =
     IsOfSize (AreTooLarge signal past payloads) cause payload
     ⊎ (AreWithinLimits signal past payloads × IsDefectOfRows (meaning_by signal) (tables_of signal past payloads) cause payload)
 
+-- THE PAYLOADS THAT WERE OPENED LAST ARE CHECKED, whichever came before them: their tables, with which nothing is wrong, their row
+-- weight, and the tree weight of the request that they make
+pub record IsChecked (signal : Signal) (streams : List StreamIn) (payloads : List PayloadIn) (made : Checked) : Type 0 where
+  pub tables : (past : List PayloadIn) → AreAfter (past ++ payloads) streams → made.tables ≡ tables_of signal past payloads
+  pub within : (past : List PayloadIn) → AreAfter (past ++ payloads) streams → AreWithinLimits signal past payloads
+  pub limits : WithinLimits signal made.tables made.rows
+  pub fine : HasFineRows (meaning_by signal) made.tables
+  pub tree : made.tree ≡ weight_of (request_in signal made.tables)
+
+-- or something is wrong with them
+abbrev pub HasLateDefect : Signal → List StreamIn → List PayloadIn → NotTaken → Type 0
+HasLateDefect signal streams payloads why =
+    (past : List PayloadIn) → AreAfter (past ++ payloads) streams → SaysDefect (IsLateDefect signal past payloads) why
+
 -- its refusal, where it is not taken; out of memory is passed on
 abbrev pub refusal_by : BatchContent → NotTaken → Result Refusal AllocError
 refusal_by batch (Defect cause payload) = Ok (refusal_of (Some batch.id) cause payload)
@@ -97,3 +115,7 @@ refusal_by batch (Memory e) = Err e
 pub record LeadsTo (m : Meaning) (outcomes : List Outcome) (frame : Frame) (outcome : Outcome) (new : SegmentIn) : Type 0 where
   pub gives : ReceivedAfter m outcomes frame outcome
   pub stands : StandsFor m.signal (outcomes ++ outcome ∷ []) new
+
+-- THE OUTCOME OF THE NEXT FRAME, after all outcomes that the segment stood for
+pub record NextOutcome (m : Meaning) (old : SegmentIn) (frame : Frame) (outcome : Outcome) (new : SegmentIn) : Type 0 where
+  pub at : (outcomes : List Outcome) → StandsFor m.signal outcomes old → LeadsTo m outcomes frame outcome new

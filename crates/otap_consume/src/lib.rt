@@ -2,6 +2,7 @@
 //! something is wrong with it.
 #![tactic(auto)]
 
+mod checking;
 mod ids;
 pub mod laws;
 mod not_taken;
@@ -20,7 +21,8 @@ mod taking;
 mod views;
 
 pub use not_taken::NotTaken;
-pub use opened::{Opened, Weighed};
+pub use opened::{Checked, Opened, Weighed};
+pub use otap_signals::check_set;
 pub use payload_types::{TypesRefusal, check_types};
 pub use receiver::Receiver;
 pub use refusal::{Cause, MAX_HELD, Refusal};

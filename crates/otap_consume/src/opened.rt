@@ -21,3 +21,13 @@ pub struct Weighed<'v> {
     /// The row weight, not a number of rows.
     pub rows: u64,
 }
+
+/// The tables of a batch with which nothing is wrong, one for each payload, and what they weigh.
+#[derive(Drop)]
+pub struct Checked<'v> {
+    pub tables: TableSet<RowsView<'v>>,
+    /// The row weight, not a number of rows.
+    pub rows: u64,
+    /// The tree weight of the request that the tables make.
+    pub tree: u64,
+}

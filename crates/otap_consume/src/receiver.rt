@@ -6,7 +6,7 @@ ghost use Rattle.otap_signals.specs.BySignal.{meaning_by};
 ghost use Rattle.otap_signals.specs.Regroups.{IsLight, IsRegrouped};
 ghost use Rattle.otap_consume.specs.declared.taken.Taken.TheVariants as taken;
 ghost use Rattle.otap_consume.specs.LateStages.{IsDefectOfRows};
-ghost use Rattle.otap_consume.specs.Opening.{IsLateDefect};
+ghost use Rattle.otap_consume.specs.Opening.{HasLateDefect};
 ghost use Rattle.otap_consume.specs.ReceiverInside.{MakesRequest, ReceivesOpened};
 ghost use Rattle.otap_consume.specs.Segments.{CanShow};
 ghost use Rattle.otap_consume.specs.Streams.{AreAfter};
@@ -110,8 +110,7 @@ fn made_of(alloc: Global, segment: &Segment, batch: &Batch<'_>) -> Result<Made, 
     ensures makes { IfOk result (λ made. (past : List PayloadIn) → AreAfter (past ++ batch.now.payloads) segment.now.streams
         → MakesRequest segment.now.signal past batch.now.payloads made.rows made.kept) }
     ensures light { IfOk result (λ made. IsLight made.kept) }
-    ensures stops { IfErr result (λ stop. (past : List PayloadIn) → AreAfter (past ++ batch.now.payloads) segment.now.streams
-        → SaysDefect (IsLateDefect segment.now.signal past batch.now.payloads) stop) }
+    ensures stops { IfErr result (HasLateDefect segment.now.signal segment.now.streams batch.now.payloads) }
 {
     let weighed = segment.weigh(batch)?;
     let kept = regroup(alloc, segment.signal(), &weighed.tables)?;

@@ -1,6 +1,6 @@
 //! What the outcomes of a receiver say of the format. The functions do nothing: their contracts are the laws.
 
-ghost use Rattle.std.specs.Prelude.{◌≡◌, ◌<◌, ℕ, ℤ, ◌↔◌, true, false, All, List, Option, Some};
+ghost use Rattle.std.specs.Prelude.{◌≡◌, ◌<◌, ℕ, ℤ, ◌↔◌, true, false, All, List, Ok, Option, Some};
 ghost use Rattle.lists.specs.Payloads.{PayloadIn};
 ghost use Rattle.otlp_model.specs.declared.request.Signal.{Signal};
 ghost use Rattle.otap_capture.specs.Batch.{BatchContent};
@@ -8,13 +8,16 @@ ghost use Rattle.otap_capture.specs.declared.frame.Damage.{Damage};
 ghost use Rattle.otap_capture.specs.Capture.{Frame, IsCapture};
 ghost use Rattle.otap_cells.specs.Tables.{Table};
 ghost use Rattle.otap_signals.specs.BySignal.{meaning_by};
+ghost use Rattle.otap_consume.specs.declared.not_taken.NotTaken.{NotTaken};
+ghost use Rattle.otap_consume.specs.declared.opened.Checked.{Checked};
+ghost use Rattle.otap_consume.specs.declared.opened.Opened.TheVariants as opening;
 ghost use Rattle.otap_consume.specs.declared.refusal.Cause.{Cause};
 ghost use Rattle.otap_consume.specs.declared.refusal.Refusal.{Refusal};
 ghost use Rattle.otap_consume.specs.Bytes.{IsOfBytes};
 ghost use Rattle.otap_consume.specs.Defects.{tables_of};
 ghost use Rattle.otap_consume.specs.LateStages.{HasFineRows};
-ghost use Rattle.otap_consume.specs.Opening.{AreWithinLimits, IsLateDefect, LeadsTo, OpensFrame};
-ghost use Rattle.otap_consume.specs.Outcomes.{stage_of, Outcome, Accepted, Refused, is_broken, payloads_after, refused};
+ghost use Rattle.otap_consume.specs.Opening.{AreWithinLimits, HasLateDefect, IsChecked, IsLateDefect, LeadsTo, NextOutcome, Opens, OpensFrame, refusal_by};
+ghost use Rattle.otap_consume.specs.Outcomes.{stage_of, Outcome, Accepted, Refused, Reset, is_broken, payloads_after, refused};
 ghost use Rattle.otap_consume.specs.Receiving.{ReceivedAfter, Received, HasDefect, IsInFormat};
 ghost use Rattle.otap_consume.specs.Segments.{SegmentIn, StandsFor};
 
@@ -56,6 +59,23 @@ pub fn opened_leads_to_an_outcome()
         → OpensFrame old frame batch opened → StandsFor old.signal outcomes old → new ≡ record opened { broken = true }
         → IsLateDefect old.signal (payloads_after outcomes) batch.payloads cause payload
         → LeadsTo (meaning_by old.signal) outcomes frame (refused (Some batch.id) cause payload) new }
+{}
+
+/// What a segment says of the next frame decides its outcome: a batch that is opened and checked is accepted, with the tables that
+/// were looked at; one that isn't taken is refused, where the segment is broken by the refusal; and a frame that isn't opened is
+/// refused, or a reset, as the segment says.
+pub fn checked_frames_have_outcomes()
+    ensures accepted { (old new : SegmentIn) (frame : Frame) (batch : BatchContent) (made : Checked)
+        → OpensFrame old frame batch new → IsChecked new.signal new.streams batch.payloads made
+        → NextOutcome (meaning_by old.signal) old frame (Accepted batch made.tables) new }
+    ensures not_taken { (old opened new : SegmentIn) (frame : Frame) (batch : BatchContent) (why : NotTaken) (refusal : Refusal)
+        → OpensFrame old frame batch opened → HasLateDefect opened.signal opened.streams batch.payloads why
+        → new ≡ record opened { broken = true } → refusal_by batch why ≡ Ok refusal
+        → NextOutcome (meaning_by old.signal) old frame (Refused refusal) new }
+    ensures refused { (old new : SegmentIn) (frame : Frame) (refusal : Refusal)
+        → Opens old frame new (opening.Refused refusal) → NextOutcome (meaning_by old.signal) old frame (Refused refusal) new }
+    ensures reset { (old new : SegmentIn) (frame : Frame)
+        → Opens old frame new opening.Reset → NextOutcome (meaning_by old.signal) old frame Reset new }
 {}
 
 /// Each frame has an outcome after frames with outcomes, and so have all frames, and those of each capture. Messages and

@@ -3,14 +3,15 @@ ghost use Rattle.std.specs.Prelude.{◌≡◌, ◌++◌, List, map, None, Some, 
 ghost use Rattle.lists.specs.Payloads.{PayloadIn};
 ghost use Rattle.otap_capture.specs.Capture.{Message, frame_of};
 ghost use Rattle.otap_consume.specs.declared.seen.Seen.TheVariants as seen;
-ghost use Rattle.otap_consume.specs.Opening.{IsOverLimit, IsWeighed, Opens, Weighs, refusal_by};
+ghost use Rattle.otap_consume.specs.Opening.{HasLateDefect, IsChecked, IsOverLimit, IsWeighed, Opens, Weighs, refusal_by};
 ghost use Rattle.otap_consume.specs.Outcomes.{refusal_of, unread_cause};
 ghost use Rattle.otap_consume.specs.Streams.{AreAfter};
 ghost use Rattle.otap_consume.specs.StreamSteps.{closed};
 ghost use Rattle.otap_consume.specs.Taking.{NextOpened, OpensMessage};
 
+use crate::checking::tree_within;
 use crate::not_taken::NotTaken;
-use crate::opened::{Opened, Weighed};
+use crate::opened::{Checked, Opened, Weighed};
 use crate::refusal::{Cause, Refusal};
 use crate::seen::Seen;
 use crate::stream::Stream;
@@ -82,7 +83,7 @@ impl Segment {
 
     /// Opens the next frame: a batch after those before it, as far as its records, or a reset, which begins a segment. What it
     /// refuses, `take` refuses too. A refused frame breaks the segment, and so does running out of memory. The caller then
-    /// weighs the batch by [`Segment::weigh`] and checks its rows; where the batch isn't taken,
+    /// looks at its tables by [`Segment::check`], or by [`Segment::weigh`] and then at their rows; where the batch isn't taken,
     /// [`Segment::refuse_batch`] breaks the segment.
     pub fn open<'f>(&mut self, frame: &Frame<'f>) -> Result<Opened<'f>, AllocError>
         ensures opens { IfOk result (Opens self.old (frame_of frame.now) self.new) }
@@ -108,6 +109,19 @@ impl Segment {
         ensures stops { IfErr result (IsOverLimit self.now.signal self.now.streams batch.now.payloads) }
     {
         weighed(self.alloc, self.signal, &self.streams, batch)
+    }
+
+    /// The tables of the batch that the last call of `open` returned, one for each payload, with their row weight and the tree
+    /// weight of their request, which isn't built. Where the batch is too large, something is wrong with its rows, or its
+    /// request weighs too much, this says so, in the causes of a receiver.
+    pub fn check<'v>(&'v self, batch: &Batch<'v>) -> Result<Checked<'v>, NotTaken>
+        requires { CanShow self.now.streams batch.now.payloads }
+        ensures checks { IfOk result (IsChecked self.now.signal self.now.streams batch.now.payloads) }
+        ensures stops { IfErr result (HasLateDefect self.now.signal self.now.streams batch.now.payloads) }
+    {
+        let Weighed { tables, rows } = self.weigh(batch)?;
+        let tree = tree_within(self.alloc, self.signal(), &tables)?;
+        Ok(Checked { tables, rows, tree })
     }
 
     /// Breaks the segment, and returns the refusal of the batch that was opened last. Out of memory is passed on.

@@ -1,8 +1,9 @@
 //! How much a batch has, weighs and holds as a whole.
-ghost use Rattle.std.specs.Prelude.{◌≡◌, length, sum_by, min, nat_lt, MatchResult};
+ghost use Rattle.std.specs.Prelude.{◌≡◌, All, length, sum_by, min, nat_lt, MatchResult};
 ghost use Rattle.otlp_model.specs.Limits.{count_cap};
 ghost use Rattle.otap_cells.specs.Payload.{main_of};
 ghost use Rattle.otap_cells.specs.Sets.{rows_named};
+ghost use Rattle.otap_cells.specs.Tables.{IsTable};
 ghost use Rattle.otap_consume.specs.Limits.{held_limit};
 ghost use Rattle.otap_consume.specs.Sizes.{WithinLimits, PastLimit, count_of_rows};
 ghost use Rattle.otap_consume.specs.StreamSteps.{held_of};
@@ -41,7 +42,8 @@ fn main_rows<R: Rows>(signal: Signal, set: &TableSet<R>) -> u64
 
 /// How many rows all tables have.
 fn count_rows<R: Rows>(set: &TableSet<R>) -> u64
-    ensures { result ≡ min (count_of_rows set.now) count_cap }
+    ensures count { result ≡ min (count_of_rows set.now) count_cap }
+    ensures sound { All IsTable set.now }
 {
     let mut total = 0;
     'tables: for (_, rows) in &set.tables {

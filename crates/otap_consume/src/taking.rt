@@ -64,7 +64,7 @@ pub(crate) fn weighed<'v>(
 }
 
 /// A limit that is exceeded names no payload.
-fn of_size(cause: Cause) -> NotTaken
+pub(crate) fn of_size(cause: Cause) -> NotTaken
     ensures { result ≡ Defect cause None }
 {
     NotTaken::Defect {

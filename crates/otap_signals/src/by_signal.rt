@@ -1,10 +1,13 @@
 //! The calls of a signal that is a value.
-ghost use Rattle.std.specs.Prelude.{◌≡◌, ◌≤◌, min, IfErr, IfOk};
+ghost use Rattle.std.specs.Prelude.{◌≡◌, ◌≤◌, min, IfErr, IfOk, OnOk};
 ghost use Rattle.otlp_model.specs.Limits.{weight_limit, count_cap};
 ghost use Rattle.otlp_model.specs.Profile.{IsProfile};
 ghost use Rattle.otlp_model.specs.Weight.{weight_of};
 ghost use Rattle.otap_cells.specs.Weights.{weight_of_tables};
-ghost use Rattle.otap_signals.specs.BySignal.{meaning_by, tables_of_request};
+ghost use Rattle.otap_checks.specs.Refusing.{RefusesCheck};
+ghost use Rattle.otap_checks.specs.RowDefects.{RowDefect};
+ghost use Rattle.otap_signals.specs.BySignal.{meaning_by, request_in, tables_of_request};
+ghost use Rattle.otap_signals.specs.Meanings.{AreClean};
 ghost use Rattle.otap_signals.specs.Regroups.{IsLight, IsRegrouped, RefusesTables};
 
 use crate::logs::LogSignal;
@@ -12,10 +15,29 @@ use crate::metrics::MetricSignal;
 use crate::regrouped::Regrouped;
 use crate::signal_tables::{SignalTables, regroup_request};
 use crate::spans::SpanSignal;
+use otap_attrs::CheckRefusal;
 use otap_cells::{LogicalTable, Rows, TableSet};
 use otap_checks::RegroupRefusal;
 use otlp_model::{Request, Signal};
 use std::alloc::{AllocError, Global};
+
+/// Looks at the rows of the tables of a signal, and returns what their request weighs, or 2^63 where it is more. It builds
+/// nothing.
+pub fn check_set<R: Rows>(
+    alloc: Global,
+    signal: Signal,
+    set: &TableSet<R>,
+) -> Result<u64, CheckRefusal>
+    ensures clean { OnOk result (AreClean (meaning_by signal) set.now) }
+    ensures weight { IfOk result (λ weight. weight ≡ min (weight_of (request_in signal set.now)) count_cap) }
+    ensures refused { IfErr result (RefusesCheck (RowDefect signal set.now)) }
+{
+    match signal {
+        Signal::Traces => SpanSignal::check_rows(alloc, set),
+        Signal::Logs => LogSignal::check_rows(alloc, set),
+        Signal::Metrics => MetricSignal::check_rows(alloc, set),
+    }
+}
 
 /// Looks at the rows of the tables of a signal, and then returns their request and its weight. The request is built only where
 /// its weight is within the limit.

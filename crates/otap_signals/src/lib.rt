@@ -10,7 +10,7 @@ mod regrouped;
 mod signal_tables;
 mod spans;
 
-pub use by_signal::{regroup, row_weight, tables_of};
+pub use by_signal::{check_set, regroup, row_weight, tables_of};
 pub use logs::LogSignal;
 pub use metrics::MetricSignal;
 pub use regrouped::Regrouped;

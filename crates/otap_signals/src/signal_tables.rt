@@ -10,12 +10,14 @@ ghost use Rattle.otap_cells.specs.Tables.{Table};
 ghost use Rattle.otap_cells.specs.Weights.{weight_of_tables};
 ghost use Rattle.otap_cells.specs.declared.payload.Kind.{Kind};
 ghost use Rattle.otap_checks.specs.Reading.{HasAllIds};
+ghost use Rattle.otap_checks.specs.Refusing.{RefusesCheck};
 ghost use Rattle.otap_checks.specs.Regrouping.{RefusesRegroup};
 ghost use Rattle.otap_checks.specs.RowDefects.{RowDefect};
 ghost use Rattle.otap_signals.specs.Regroups.{IsLight, IsRegrouped, RefusesTables};
 ghost use Rattle.otap_signals.specs.Signals.{ComesBack, IsWritten, SignalIn, meaning_of};
 
 use crate::regrouped::Regrouped;
+use otap_attrs::CheckRefusal;
 use otap_cells::{LogicalTable, Rows, TableSet};
 use otap_checks::{Grouped, RegroupRefusal};
 use otlp_model::{Items, Request, ResourceGroup};
@@ -47,6 +49,12 @@ pub trait SignalTables {
         requires profile { IsProfile (rows.request groups.now) }
         requires light { weight_of (rows.request groups.now) ≤ weight_limit }
         ensures { IfOk result (λ set. set ≡ rows.tables groups.now) };
+
+    /// Looks at the rows of tables, and returns what their request weighs, or 2^63 where it is more. It builds nothing.
+    fn check_rows<R: Rows>(alloc: Global, set: &TableSet<R>) -> Result<u64, CheckRefusal>
+        ensures clean { OnOk result ((kind : Kind) (why : RowRefusal) → RowDefect rows.signal set.now kind why → ⊥) }
+        ensures weight { IfOk result (λ weight. weight ≡ min (weight_of (rows.request (rows.regrouped set.now))) count_cap) }
+        ensures refused { IfErr result (RefusesCheck (RowDefect rows.signal set.now)) };
 
     /// Looks at the rows of tables, and then returns the groups of their request and its weight. These are built only where the
     /// weight is within the limit.

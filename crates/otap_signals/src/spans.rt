@@ -3,6 +3,7 @@ ghost use Rattle.std.specs.Prelude.{◌≡◌};
 ghost use Rattle.otap_signals.specs.Instances.{spans};
 
 use crate::signal_tables::SignalTables;
+use otap_attrs::CheckRefusal;
 use otap_cells::{LogicalTable, Rows, TableSet};
 use otap_checks::{Grouped, RegroupRefusal};
 use otap_spans::laws::{
@@ -10,7 +11,7 @@ use otap_spans::laws::{
     tables_have_no_defects, tables_tell_the_same,
 };
 use otap_spans::reading_laws::cells_and_ids_decide;
-use otap_spans::{regroup, table_weight, tables_of};
+use otap_spans::{check_rows, regroup, table_weight, tables_of};
 use otlp_model::{Items, Request, ResourceGroup, Span};
 use std::alloc::{AllocError, Global};
 
@@ -38,6 +39,10 @@ impl SignalTables for SpanSignal {
         groups: &Items<ResourceGroup<Span>>,
     ) -> Result<TableSet<LogicalTable>, AllocError> {
         tables_of(alloc, groups)
+    }
+
+    fn check_rows<R: Rows>(alloc: Global, set: &TableSet<R>) -> Result<u64, CheckRefusal> {
+        check_rows(alloc, set)
     }
 
     fn regroup<R: Rows>(alloc: Global, set: &TableSet<R>) -> Result<Grouped<Span>, RegroupRefusal> {

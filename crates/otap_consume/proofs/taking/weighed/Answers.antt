@@ -31,6 +31,7 @@ returns-in-Ok-2-clause-weighs c =
       weighs = λ past are.
           weighs signal past payloads streams tables c.in-Ok.field-0 c.requires.kinds are c.requires.shows c.in_ok-tables.ensures
           c.in-Ok.ensures (sym c.hold_too_much.ensures ∙ c.if-hold_too_much.false);
+      limits = c.in-Ok.ensures;
     }
 
 pub returns-clause-stops : goal.returns-clause-stops

@@ -2,12 +2,11 @@ use Rattle.std.proofs.Common.{◌∙◌, ◌++◌, List, true, ap, sym, subst}
 use Rattle.lists.specs.Payloads.{PayloadIn}
 use Rattle.otap_signals.specs.BySignal.{meaning_by}
 use Rattle.otap_consume.specs.declared.taken.Taken.{Taken}
-use Rattle.otap_consume.specs.Opening.{IsLateDefect}
+use Rattle.otap_consume.specs.Opening.{HasLateDefect}
 use Rattle.otap_consume.specs.ReceiverInside.{MakesRequest}
 use Rattle.otap_consume.specs.Receivers.{Receives}
 use Rattle.otap_consume.specs.Segments.{SegmentIn}
 use Rattle.otap_consume.specs.Streams.{AreAfter}
-use Rattle.otap_consume.specs.Untaken.{SaysDefect}
 use Rattle.otap_consume.proofs.OpeningSteps.{received_made, received_refused}
 use Rattle.otap_consume.proofs.receiver.Receiver.take_batch.Goals as goal
 
@@ -25,5 +24,4 @@ returns-in_ok-refuse_batch-in-Err-clause-takes c = λ old frame o.
     let payloads = c.args.batch.now.payloads in
     received_refused old c.args.self.now frame c.args.batch.now o c.refuse_batch.new.self c.in-Err.why c.in_ok-refuse_batch-in-Err.field-0
     (c.refuse_batch.ensures.broken ∙ ap (λ (s : SegmentIn). record s { broken = true }) c.self.view_is) (sym c.in_ok-refuse_batch-in-Err.ensures.refusal)
-    (subst (λ (s : SegmentIn). (past : List PayloadIn) → AreAfter (past ++ payloads) s.streams → SaysDefect (IsLateDefect s.signal past payloads) c.in-Err.why)
-    c.self.view_is c.in-Err.ensures.stops)
+    (subst (λ (s : SegmentIn). HasLateDefect s.signal s.streams payloads c.in-Err.why) c.self.view_is c.in-Err.ensures.stops)
