@@ -27,7 +27,7 @@ use Rattle.otap_transit.specs.Faithful.{AreFaithful, MeanTheSame}
 use Rattle.otap_transit.proofs.FitTables.{all_ids}
 
 -- the rows of a kind are those of its table
-named_rows : (kind : Kind) (ts : List Table) → rows_named kind ts ≡ (table_named kind ts).rows
+pub named_rows : (kind : Kind) (ts : List Table) → rows_named kind ts ≡ (table_named kind ts).rows
 named_rows kind [] = refl
 named_rows kind (t ∷ ts) =
     elim (cases_Bool (is_kind t.kind kind)) [

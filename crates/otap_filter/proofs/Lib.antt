@@ -1,0 +1,7 @@
+pub mod Answered
+pub mod FitSets
+pub mod Fresh
+pub mod Keeping
+pub mod SentGrown
+pub mod SentSets
+pub mod Steps

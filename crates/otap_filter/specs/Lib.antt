@@ -1,0 +1,4 @@
+pub mod Filtering
+pub mod Filters
+pub mod Inside
+pub mod Runs
