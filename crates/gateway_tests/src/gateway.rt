@@ -329,6 +329,53 @@ fn each_failing_write_leaves_whole_batches(rt: HostRuntime) -> Result<(), Fail> 
     encodes(&rt, failing, 27, 0)
 }
 
+/// What is read of a batch of which nothing is kept, a reset, and such a batch again: two requests without groups.
+const FILTERED: [u8; 15] = [0, 0, 0, 0, 0, 2, 0, 0, 0, 0, 0, 0, 0, 0, 0];
+
+/// Filters the capture of 549 bytes in pieces of one byte, so that nothing of its batches is kept, and decodes what is written:
+/// it is the front of that length.
+fn filters<R: Abort + AllocGlobal>(
+    rt: &R,
+    failing: Failing<'_>,
+    front: usize,
+    status: u8,
+) -> Result<(), Fail>
+    requires { front ≤ 15 }
+{
+    let words = ["filter", "logs", "item", "k", "x"];
+    let ran = run_job(rt.alloc(), &words, &capture(rt.alloc())?, 1, failing)?;
+    assert!(rt; ran.err.bytes().is_empty());
+    assert_eq!(rt; ran.status, status);
+    let left = Left {
+        out: &FILTERED[..front],
+        err: "",
+        status: 0,
+    };
+    runs(
+        rt,
+        &["decode", "logs"],
+        ran.out.bytes(),
+        1 << 16,
+        NONE,
+        left,
+    )
+}
+
+#[test]
+fn each_failing_write_leaves_whole_batches_of_what_is_kept(rt: HostRuntime) -> Result<(), Fail> {
+    // Each batch is written and passed on, and all is passed on at the end.
+    for (call, front) in [0, 5, 5, 10, 10, 15, 15].into_iter().enumerate() {
+        let failing = Failing {
+            out: &[call as u64],
+            ..NONE
+        };
+        assert!(rt; front <= 15);
+        filters(&rt, failing, front, 4)?;
+    }
+    let failing = Failing { out: &[7], ..NONE };
+    filters(&rt, failing, 15, 0)
+}
+
 /// A capture of 26 bytes: two requests without groups as events, a reset, and a status that accepts the first of them.
 const EVENTS: [u8; 26] = [
     0, 0, 0, 0, 2, 0x0a, 0, 0, 0, 0, 0, 2, 0x0a, 0, 2, 0, 0, 0, 0, 0, 0, 0, 0, 2, 0x12, 0,

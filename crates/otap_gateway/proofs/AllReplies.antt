@@ -17,7 +17,12 @@ use Rattle.otap_consume.specs.LateStages.{IsDefectOfRows}
 use Rattle.otap_consume.specs.Outcomes.{Outcome, Outcomes, OutcomeAfter, stage_of}
 use Rattle.otap_consume.specs.Receiving.{ReceivedAfter, Received, Settles}
 use Rattle.otlp_model.specs.declared.request.Signal.{Signal}
+use Rattle.otap_filter.specs.Filtering.{AreFiltered, FiltersAfter, Given}
+use Rattle.otap_filter.specs.Filters.{text_under}
 use Rattle.otap_gateway.specs.declared.jobs.command.Command.TheVariants as command
+use Rattle.otap_gateway.specs.declared.jobs.owner.Owner.{Owner}
+use Rattle.otap_gateway.specs.Filtering.{filtered_text}
+use Rattle.otap_gateway.specs.Owners.{signal_of, whose_of}
 use Rattle.otap_gateway.specs.declared.jobs.command.ReceiverText.{ReceiverText}
 use Rattle.otap_gateway.specs.Commands.{ReplyOf}
 use Rattle.otap_signals.specs.BySignal.{rows_by, meaning_by}
@@ -170,6 +175,11 @@ pub encode_back : (signal : Signal) (frames : List Frame) (replies : List ReplyT
     → (outcomes : List Encoded) × Gave (Encodes (rows_by signal) (meaning_by signal)) frames outcomes × (replies ≡ replies_from encoded 0 outcomes)
 unfolding ReplyOf
 encode_back signal = gives_back (Encodes (rows_by signal) (meaning_by signal)) encoded
+
+pub filter_back : (owner : Owner) (key text : List ℕ) (frames : List Frame) (replies : List ReplyText) → EachAfter (ReplyOf (command.Filter owner key text)) [] [] frames replies
+    → (given : List Given) × AreFiltered (signal_of owner) (whose_of owner) (text_under key text) frames given × (replies ≡ replies_from filtered_text 0 given)
+unfolding ReplyOf
+filter_back owner key text = gives_back (FiltersAfter (signal_of owner) (whose_of owner) (text_under key text)) filtered_text
 
 -- the message of a status is what the line says from its stage on
 pub from_the_stage_on : (number : ℕ) (refusal : Refusal) → refusal_line number refusal ≡ batch_head number (or_dash refusal.id) ++ (codes " refused: " ++ ((refusal_status refusal).message ++ line_feed))

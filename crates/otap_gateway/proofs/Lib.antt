@@ -10,6 +10,9 @@ pub mod EndingWords
 pub mod Extending
 pub mod FaultlessEndings
 pub mod FaultlessRuns
+pub mod FilteredArriving
+pub mod FilteredBytes
+pub mod FilteredFrames
 pub mod ItemsWeigh
 pub mod LaidSegments
 pub mod LoadRows
@@ -44,6 +47,7 @@ pub mod FiledBatches
 pub mod FiledRuns
 pub mod FilesBack
 pub mod WholeRuns
+pub mod WrittenCaptures
 pub mod WrittenFrames
 mod Plain
 mod Printed

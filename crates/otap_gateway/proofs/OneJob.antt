@@ -1,15 +1,18 @@
 -- Words are those of one job at most.
 use Rattle.std.proofs.Common.{◌≡◌, ℕ, List, [], ◌∷◌, Option, Some, Result, refl, sym, ap, ◌∙◌, subst}
-use Rattle.std.specs.Prelude.{find}
+use Rattle.std.specs.Prelude.{find, option_map}
 use Rattle.std.specs.Str.{bytes_eq}
 use lib.Pointwise.{pointwise}
 use Rattle.otlp_model.specs.declared.request.Signal.TheVariants.{Traces, Logs, Metrics}
 use Rattle.otap_gateway.specs.declared.jobs.command.Command.{Command}
-use Rattle.otap_gateway.specs.declared.jobs.command.Command.TheVariants.{List as Listing, Tidy, Encode, Schema, Show, Receive}
+use Rattle.otap_gateway.specs.declared.jobs.command.Command.TheVariants.{List as Listing, Tidy, Encode, Schema, Show, Receive, Filter}
 use Rattle.otap_gateway.specs.declared.jobs.command.ReceiverText.TheVariants.{Decode, Status, Replay}
+use Rattle.otap_gateway.specs.declared.jobs.owner.Owner.{Owner}
+use Rattle.otap_gateway.specs.declared.jobs.owner.Owner.TheVariants.{Span, SpanResource, LogRecord, LogResource, MetricResource}
 use Rattle.otap_gateway.specs.declared.runs.stop.Stop.{Stop}
 use Rattle.otap_gateway.specs.declared.runs.stop.Tally.{Tally}
-use Rattle.otap_gateway.specs.Commands.{words_of}
+use Rattle.otap_gateway.specs.Commands.{signal_word, words_of}
+use Rattle.otap_gateway.specs.Owners.{signal_of, whose_of, whose_word}
 use Rattle.otap_gateway.specs.Runs.{World, Leaves, Stops, CountsFaults, Runs, exit_status}
 
 jobs : List Command
@@ -17,12 +20,17 @@ jobs = Listing ∷ Tidy Traces ∷ Tidy Logs ∷ Tidy Metrics ∷ Schema Traces 
     ∷ Encode Traces ∷ Encode Logs ∷ Encode Metrics ∷ Receive Decode Traces ∷ Receive Decode Logs ∷ Receive Decode Metrics
     ∷ Receive Status Traces ∷ Receive Status Logs ∷ Receive Status Metrics ∷ Receive Replay Traces ∷ Receive Replay Logs ∷ Receive Replay Metrics ∷ []
 
--- the first job that has the words
+owners : List Owner
+owners = Span ∷ SpanResource ∷ LogRecord ∷ LogResource ∷ MetricResource ∷ []
+
+-- the first job that has the words; where there are five of them, the last two are the key and the text of a filter
 named : List (List ℕ) → Option Command
+named (job ∷ signal ∷ whose ∷ key ∷ text ∷ []) =
+    option_map (λ owner. Filter owner key text) (find (λ owner. pointwise bytes_eq (signal ∷ whose ∷ []) (signal_word (signal_of owner) ∷ whose_word (whose_of owner) ∷ [])) owners)
 named words = find (λ job. pointwise bytes_eq words (words_of job)) jobs
 
 is_named : (job : Command) → named (words_of job) ≡ Some job
-unfolding jobs named
+unfolding jobs owners named
 is_named Listing = refl
 is_named (Tidy Traces) = refl
 is_named (Tidy Logs) = refl
@@ -45,6 +53,11 @@ is_named (Receive Status Metrics) = refl
 is_named (Receive Replay Traces) = refl
 is_named (Receive Replay Logs) = refl
 is_named (Receive Replay Metrics) = refl
+is_named (Filter Span key text) = refl
+is_named (Filter SpanResource key text) = refl
+is_named (Filter LogRecord key text) = refl
+is_named (Filter LogResource key text) = refl
+is_named (Filter MetricResource key text) = refl
 
 pub one_job : (a b : Command) → words_of a ≡ words_of b → a ≡ b
 one_job a b is = let same : Some a ≡ Some b = sym (is_named a) ∙ ap named is ∙ is_named b in cc

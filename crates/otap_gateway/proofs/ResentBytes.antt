@@ -15,7 +15,7 @@ use Rattle.otap_signals.specs.Meanings.{SignalRows}
 use Rattle.otap_produce.specs.Policy.{IsMessageOf, Policy}
 use Rattle.otap_resend.specs.declared.unanswered.Unanswered.{Unanswered}
 use Rattle.otap_resend.specs.Runs.{Step, state_after}
-use Rattle.otap_resend.specs.States.{State, Call, Send, Answer, Reset, Resend, Outcome, Wrote, Refused, OutOfMemory, Done, GivenUp, Kept, Unknown, Nothing, is_unwritten, new_state, next, request_if, with_first_written}
+use Rattle.otap_resend.specs.States.{State, Call, Send, Answer, Resend, Outcome, Wrote, Refused, OutOfMemory, Done, GivenUp, Kept, Unknown, Nothing, is_unwritten, new_state, next, request_if, with_first_written}
 use Rattle.otap_resend.specs.Turns.{IsNextMessage, MayGive}
 use Rattle.otap_resend.specs.Turns as turns
 use Rattle.otap_transit.specs.Sendings.{Sending, Sent, AreAllowed, IsAllowed, frame_sent, messages_since, requests_since}
@@ -30,7 +30,8 @@ use Rattle.otap_gateway.proofs.ResentFrames.{steps_more}
 use Rattle.otap_gateway.proofs.ResentRuns.{of_frames}
 use Rattle.otap_gateway.proofs.RewrittenFrames.{after_more}
 use Rattle.otap_gateway.proofs.SentSoFar.{messages_first, requests_first}
-use Rattle.otap_gateway.proofs.WrittenFrames.{MessagesAreRead, capture_of, spelled}
+use Rattle.otap_gateway.proofs.WrittenCaptures.{MessagesAreRead}
+use Rattle.otap_gateway.proofs.WrittenFrames.{sent_capture, spelled}
 
 -- ---- what calls send, some after others
 
@@ -214,5 +215,5 @@ resent_back signal messages resets arrives window frames given gave =
     record {
       allowed = allowed;
       arrives = arrives ss allowed;
-      capture = subst (λ (l : List ℕ). length l < capture_limit → IsCapture l (map frame_sent ss) None) out (capture_of rows messages resets ss allowed);
+      capture = subst (λ (l : List ℕ). length l < capture_limit → IsCapture l (map frame_sent ss) None) out (sent_capture rows messages resets ss allowed);
     }

@@ -1,5 +1,5 @@
 -- What was sent, one more frame.
-use Rattle.std.proofs.Common.{◌≡◌, ◌⊎◌, inl, inr, ℕ, ◌≤◌, true, false, List, [], ◌∷◌, ◌++◌, length, refl, ◌∙◌, append-nil, arith}
+use Rattle.std.proofs.Common.{◌≡◌, ◌⊎◌, inl, inr, ℕ, ◌≤◌, Bool, true, false, List, [], ◌∷◌, ◌++◌, length, refl, ◌∙◌, append-nil, arith}
 use Rattle.std.specs.Prelude.{if◌then◌else◌}
 use Rattle.std.specs.List.{flat_map, list_any}
 use Rattle.std.proofs.lemmas.Bool.{cases_Bool}
@@ -32,12 +32,12 @@ messages_first = refl
 
 -- ---- no more requests than frames
 
-since_short : (xs : List Sending) → length (since is_reset xs) ≤ length xs
-since_short [] = omega arith
-since_short (x ∷ xs) = by_rest (since_short xs) (cases_Bool (list_any is_reset xs))
+pub since_short : {A : Type 0} (test : A → Bool) (xs : List A) → length (since test xs) ≤ length xs
+since_short test [] = omega arith
+since_short {A} test (x ∷ xs) = by_rest (since_short test xs) (cases_Bool (list_any test xs))
   where
-    by_rest : length (since is_reset xs) ≤ length xs → (list_any is_reset xs ≡ true) ⊎ (list_any is_reset xs ≡ false)
-        → length (if list_any is_reset xs then since is_reset xs else x ∷ xs) ≤ length (x ∷ xs)
+    by_rest : length (since test xs) ≤ length xs → (list_any test xs ≡ true) ⊎ (list_any test xs ≡ false)
+        → length (if list_any test xs then since test xs else x ∷ xs) ≤ length (x ∷ xs)
     by_rest rest (inl some) = rw some (omega (arith, rest))
     by_rest rest (inr none) = rw none (omega arith)
 
@@ -55,7 +55,7 @@ pub few_requests : (os : List Encoded) → length (requests_since (sent os)) ≤
 unfolding requests_since
 few_requests os =
     let requests = requests_short (since is_reset (sent os)) in
-    let last = since_short (sent os) in
+    let last = since_short is_reset (sent os) in
     let all = sent_short os in
     omega (arith, requests, last, all)
 

@@ -1,9 +1,8 @@
 -- The bytes that `encode` writes are the frames of what was sent.
-use Rattle.std.proofs.Common.{◌≡◌, ℕ, suc, ◌+◌, ◌<◌, ◌≤◌, List, [], ◌∷◌, ◌++◌, length, map, None, refl, sym, ap, ◌∙◌, subst, append-nil, length-append, arith}
+use Rattle.std.proofs.Common.{◌≡◌, ℕ, suc, ◌<◌, List, [], ◌∷◌, ◌++◌, length, map, None, refl, sym, ap, ◌∙◌, subst}
 use Rattle.std.specs.List.{flat_map}
-use Rattle.std.proofs.lemmas.Bool.{lt-leb}
 use Rattle.lists.specs.EachAfter.{EachAfter, AllAfter}
-use Rattle.otap_capture.specs.Capture.{Frame, IsFrame, AreFrames, IsCapture, Message, message_frame, reset_frame, longest_frame, capture_limit}
+use Rattle.otap_capture.specs.Capture.{Frame, IsFrame, IsCapture, message_frame, reset_frame, capture_limit}
 use Rattle.otap_capture.specs.Capture as capture
 use Rattle.otap_signals.specs.Meanings.{Meaning, SignalRows}
 use Rattle.otap_transit.specs.Sendings.{Sending, Sent, Reset, AreAllowed, IsAllowed, frame_sent}
@@ -18,6 +17,7 @@ use Rattle.otap_gateway.specs.Replies.{Gave, replies_from}
 use Rattle.otap_gateway.proofs.EncodedFrames.{encoded_only}
 use Rattle.otap_gateway.proofs.SentSoFar.{are_allowed}
 use Rattle.otap_gateway.proofs.AllReplies.{encode_back}
+use Rattle.otap_gateway.proofs.WrittenCaptures.{AreSpelled, MessagesAreRead, capture_of}
 
 -- the bytes of what is sent
 abbrev pub spelled : Sending → List ℕ
@@ -30,32 +30,17 @@ out_replies number (Puts (Sent q m) ∷ os) = ap (λ l. message_frame m ++ l) (o
 out_replies number (Puts Reset ∷ os) = ap (λ l. reset_frame ++ l) (out_replies (suc number) os)
 out_replies number (Refuses name ∷ os) = out_replies (suc number) os
 
--- a frame is read where it is written
-abbrev pub MessagesAreRead : Type 0
-MessagesAreRead = (part : List ℕ) → length part ≤ longest_frame → IsFrame (message_frame part) (Message part)
-
 module _ (rows : SignalRows) (messages : MessagesAreRead) (resets : IsFrame reset_frame capture.Reset) where
   one_frame : (past : List Sending) (s : Sending) → IsAllowed rows past s → IsFrame (spelled s) (frame_sent s)
   one_frame past (Sent q m) may = messages m may.message_of.short
   one_frame past Reset may = resets
 
-  frames_of : (past ss : List Sending) (place : ℕ) → AllAfter (IsAllowed rows) past ss → place + length (flat_map spelled ss) < capture_limit
-      → AreFrames place (flat_map spelled ss) (map frame_sent ss)
-  frames_of past [] place each few = refl
-  frames_of past (s ∷ ss) place each few =
-      let size : length (spelled s ++ flat_map spelled ss) ≡ length (spelled s) + length (flat_map spelled ss) = length-append (spelled s) (flat_map spelled ss) in
-      let begins : place < capture_limit = omega (arith, few) in
-      let after : (place + length (spelled s)) + length (flat_map spelled ss) < capture_limit = omega (arith, few, size) in
-      (spelled s, flat_map spelled ss, refl, begins, one_frame past s each.0, frames_of (past ++ s ∷ []) ss (place + length (spelled s)) each.1 after)
+  all_frames : (past ss : List Sending) → AllAfter (IsAllowed rows) past ss → AreSpelled spelled frame_sent ss
+  all_frames past [] each = tt
+  all_frames past (s ∷ ss) each = (one_frame past s each.0, all_frames (past ++ s ∷ []) ss each.1)
 
-  pub capture_of : (ss : List Sending) → AreAllowed rows ss → length (flat_map spelled ss) < capture_limit → IsCapture (flat_map spelled ss) (map frame_sent ss) None
-  capture_of ss allowed few = record {
-    front = flat_map spelled ss;
-    rest = [];
-    whole = sym (append-nil (flat_map spelled ss));
-    each = frames_of [] ss 0 allowed (let few = few in omega (arith, few));
-    ends = (refl, rw (lt-leb capture_limit (length (flat_map spelled ss)) few) refl);
-  }
+  pub sent_capture : (ss : List Sending) → AreAllowed rows ss → length (flat_map spelled ss) < capture_limit → IsCapture (flat_map spelled ss) (map frame_sent ss) None
+  sent_capture ss allowed = capture_of spelled frame_sent ss (all_frames [] ss allowed)
 
   read_from : (m : Meaning) → ((ss : List Sending) → AreAllowed rows ss → Arrives m ss) → (frames : List Frame) (replies : List ReplyText) (os : List Encoded)
       → Gave (Encodes rows m) frames os → replies ≡ replies_from encoded 0 os → IsReadAgain rows m frames replies
@@ -69,7 +54,7 @@ module _ (rows : SignalRows) (messages : MessagesAreRead) (resets : IsFrame rese
         texts = texts;
         allowed = allowed;
         arrives = arrives (sent os) allowed;
-        capture = subst (λ (l : List ℕ). length l < capture_limit → IsCapture l (map frame_sent (sent os)) None) out (capture_of (sent os) allowed);
+        capture = subst (λ (l : List ℕ). length l < capture_limit → IsCapture l (map frame_sent (sent os)) None) out (sent_capture (sent os) allowed);
       }
 
 pub read_back : (signal : Signal) → MessagesAreRead → IsFrame reset_frame capture.Reset → ((ss : List Sending) → AreAllowed (rows_by signal) ss → Arrives (meaning_by signal) ss)

@@ -11,6 +11,9 @@ pub mod FieldsInside
 pub mod FilesBack
 pub mod Filing
 pub mod FilingSteps
+pub mod FilteredBack
+pub mod Filtering
+pub mod FilteringSteps
 pub mod JobStates
 pub mod Jobs
 pub mod Lines
@@ -19,6 +22,7 @@ pub mod Loading
 pub mod Loads
 pub mod OneRun
 pub mod Openings
+pub mod Owners
 pub mod Quoting
 pub mod ReadBack
 pub mod Receptions

@@ -6,6 +6,7 @@ mod runs;
 mod texts;
 
 pub use jobs::filing_laws::{files_come_back, one_unfiling};
+pub use jobs::filtering_laws::{filtered_texts_have_outcomes, what_is_filtered_is_read};
 pub use jobs::reception_laws::{
     captures_have_texts, outcomes_give_the_texts, status_says_the_line, texts_have_outcomes,
 };

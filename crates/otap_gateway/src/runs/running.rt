@@ -16,7 +16,9 @@ ghost use Rattle.otap_gateway.specs.Runs.{sinks, world, Leaves, Stops, StopsBy, 
 use crate::jobs::command::{Command, ReceiverText};
 use crate::jobs::encode::EncodeJob;
 use crate::jobs::ending::Ending;
+use crate::jobs::filter::FilterJob;
 use crate::jobs::list::ListJob;
+use crate::jobs::owner::Owner;
 use crate::jobs::receiving::ReceiverJob;
 use crate::jobs::schema::SchemaJob;
 use crate::jobs::show::ShowJob;
@@ -132,15 +134,15 @@ fn run_ending<S: Source, O: Sink, E: Sink>(
 
 fn run_job<S: Source, O: Sink, E: Sink>(
     alloc: Global,
-    job: Command,
+    job: Command<'_>,
     source: &mut S,
     out: &mut O,
     err: &mut E,
 ) -> Result<Tally, Stop>
-    ensures leaves { Leaves job (S.left source.old)
+    ensures leaves { Leaves job.entry (S.left source.old)
         (sinks O.Sink out.old E.Sink err.old)
         (sinks O.Sink out.new E.Sink err.new) result }
-    ensures stops { Stops job
+    ensures stops { Stops job.entry
         (world S.Source source.old (sinks O.Sink out.old E.Sink err.old))
         (world S.Source source.new (sinks O.Sink out.new E.Sink err.new)) result }
     ensures faults { CountsFaults
@@ -154,6 +156,9 @@ fn run_job<S: Source, O: Sink, E: Sink>(
         Command::Schema(signal) => drive(alloc, &mut SchemaJob::new(signal), source, out, err),
         Command::Show(signal) => show(alloc, signal, source, out, err),
         Command::Receive(text, signal) => receive(alloc, text, signal, source, out, err),
+        Command::Filter { owner, key, text } => {
+            filter(alloc, owner, key.text(), text.text(), source, out, err)
+        }
     }
 }
 
@@ -222,6 +227,31 @@ fn encode<S: Source, O: Sink, E: Sink>(
         (world S.Source source.new (sinks O.Sink out.new E.Sink err.new)) result }
 {
     let Ok(mut job) = EncodeJob::new(alloc, signal) else {
+        return Err(Stop::Memory);
+    };
+    drive(alloc, &mut job, source, out, err)
+}
+
+fn filter<S: Source, O: Sink, E: Sink>(
+    alloc: Global,
+    owner: Owner,
+    key: &str,
+    text: &str,
+    source: &mut S,
+    out: &mut O,
+    err: &mut E,
+) -> Result<Tally, Stop>
+    ensures leaves { Leaves (command.Filter owner key.now text.now) (S.left source.old)
+        (sinks O.Sink out.old E.Sink err.old)
+        (sinks O.Sink out.new E.Sink err.new) result }
+    ensures stops { Stops (command.Filter owner key.now text.now)
+        (world S.Source source.old (sinks O.Sink out.old E.Sink err.old))
+        (world S.Source source.new (sinks O.Sink out.new E.Sink err.new)) result }
+    ensures faults { CountsFaults
+        (world S.Source source.old (sinks O.Sink out.old E.Sink err.old))
+        (world S.Source source.new (sinks O.Sink out.new E.Sink err.new)) result }
+{
+    let Ok(mut job) = FilterJob::new(alloc, owner, key, text) else {
         return Err(Stop::Memory);
     };
     drive(alloc, &mut job, source, out, err)

@@ -5,7 +5,7 @@ ghost use Rattle.otap_gateway.specs.Endings.{IsEnding, IsNoEnding, ending_words}
 ghost use Rattle.otap_gateway.specs.Loads.{IsLoad, IsNoLoad, load_words};
 ghost use Rattle.otap_gateway.specs.Unfiling.{IsUnfile, IsNoUnfile, unfile_words};
 
-use crate::jobs::command::{Command, one_word, two_words};
+use crate::jobs::command::{Command, five_words, one_word, two_words};
 use crate::jobs::ending::{Ending, ending_of, file_of};
 use crate::jobs::unfile::{Unfile, unfile_of};
 use crate::runs::load::{Load, three_words};
@@ -49,12 +49,19 @@ impl Words {
     }
 
     /// The job that these are the words of.
-    pub(crate) fn command(&self) -> Option<Command>
+    pub(crate) fn command(&self) -> Option<Command<'_>>
         ensures { MatchOption result (IsNoCommand self.now) (λ command. self.now ≡ words_of command) }
     {
         match self.words.as_slice() {
             [job] => one_word(job.as_str()),
             [job, signal] => two_words(job.as_str(), signal.as_str()),
+            [job, signal, whose, key, text] => five_words(
+                job.as_str(),
+                signal.as_str(),
+                whose.as_str(),
+                key.as_str(),
+                text.as_str(),
+            ),
             _ => None,
         }
     }
