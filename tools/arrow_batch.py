@@ -28,7 +28,7 @@ class Structs(NamedTuple):
 
 class Column(NamedTuple):
     """A field with its array: the number and the table of its type, how many nulls it has, its buffers, and its children.
-    With a dictionary the buffers are those of the indexes, of `width` bits."""
+    With a dictionary the buffers are those of the indexes, of `width` bits. A column of ids may name its coding."""
 
     name: bytes
     type: tuple
@@ -37,6 +37,7 @@ class Column(NamedTuple):
     children: tuple = ()
     dictionary: int | None = None
     width: int = 8
+    coding: bytes | None = None
 
 
 def integer(bits):
@@ -111,7 +112,8 @@ def message(kind, header, buffers=(), version=4):
 def schema_field(column):
     number, table = column.type
     index = None if column.dictionary is None else Table((Number(8, column.dictionary), integer(column.width)[1]))
-    return Table((column.name, Number(1, 1), Number(1, number), table, index, [schema_field(c) for c in column.children]))
+    slots = (column.name, Number(1, 1), Number(1, number), table, index, [schema_field(c) for c in column.children])
+    return Table(slots if column.coding is None else (*slots, [Table((b"encoding", column.coding))]))
 
 
 def depth_first(columns):

@@ -8,7 +8,7 @@ is said, and the status is 5, or 0 where the cut stands between two frames. With
 captures that are longer than 1,000 bytes, and those around the ends of frames.
 
 For `decode`, `replay`, `schema` and `show` the text of the whole capture was made by an independent program; `tidy` writes
-its requests as they stand. For `encode` and `status` the program's own output for the whole capture is taken.
+its requests as they stand. For `encode`, `filter` and `status` the program's own output for the whole capture is taken.
 
 `file` and `resend` write at the end too: what they write is compared with what the program writes for the whole frames alone,
 and the damage stands behind the line of `file`, and before that of `resend`. Of a file that is cut `unfile` says that it is
@@ -20,7 +20,7 @@ import os
 import subprocess
 import sys
 
-from small_runs import MAIN, events
+from small_runs import MAIN, PAIR, events, groups
 
 EXAMPLES = os.path.join(os.path.dirname(os.path.abspath(__file__)), "..", "examples")
 # What `list` writes for a batch of one payload, a reset, and the batch again.
@@ -113,6 +113,9 @@ def of_signal(program, signal, step):
         if os.path.exists(f"{place}.{job}"):
             text = read(f"{place}.{job}")
             wrong += wrong_cuts(program, [job, signal], batches, text, line_ends(text), step)
+    of_groups, filtering = groups(program, signal), ["filter", signal, *PAIR]
+    kept = run(program, filtering, of_groups)[0]
+    wrong += wrong_cuts(program, filtering, of_groups, kept, ends(kept), step)
     file = ["file", signal, MAIN[signal], "0"]
     wrong += wrong_cuts_with_an_end(program, file, batches, 0, step)
     wrong += wrong_cuts_of_a_file(program, ["unfile", signal, MAIN[signal]], run(program, file, batches)[0], step)

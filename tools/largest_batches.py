@@ -1,11 +1,12 @@
 #!/usr/bin/env python3
-"""Runs `decode logs` and `replay logs` on batches that are as large as the profile takes, and on batches one larger.
+"""Runs `decode`, `replay` and `filter` on batches of logs that are as large as the profile takes, and on batches one larger.
 
     tools/largest_batches.py [PROGRAM [REFERENCE...]]
 
 Each batch has as many rows, as many values or bytes in a dictionary, or as much weight as docs/PROFILE.md says, or one
-more. The first give the requests and the lines that stand here, the others are refused. REFERENCE, if given, is the
-command of a reference implementation, which is run with the same words on the same captures and must give the same.
+more. The first give the requests and the lines that stand here, the others are refused; of what `filter` writes only its lines
+and its status are looked at. REFERENCE, if given, is the command of a reference implementation, which is run with the same
+words on the same captures and must give the same.
 These captures have up to 256 MiB, so the gate leaves them out. It prints each case, and the status is 1 where one of them
 gave another answer.
 """
@@ -14,6 +15,7 @@ import subprocess
 import sys
 from typing import NamedTuple
 
+import batches_of_cells as cells
 from arrow_batch import BINARY, STRUCT, UTF8, Column, batch, dictionary, integer, record
 from at_the_limits import PROGRAM, field, frame, within
 
@@ -26,6 +28,7 @@ MOST_VALUES = 65_536
 RECORD = 3 * 32
 # What a value of a dictionary takes beside its bytes.
 VALUE = 8
+FILTER = ["filter", "logs", "item", "a", "x"]
 
 
 class Case(NamedTuple):
@@ -144,26 +147,51 @@ def expected(case, job):
     return frame(case.request) if job == "decode" else line.encode(), b"", 0
 
 
-def answer(command, job, capture):
-    run = subprocess.run([*command, job, "logs"], input=capture, capture_output=True, check=False)
+def held_twice(first, second):
+    """A batch that holds so many bytes, whose ids fall among the rows that have a = "x"; and one that holds more."""
+
+    def one(kind, size, columns, rows, **rest):
+        value = cells.indexed(b"zzz", [0] * rows, 0, kind=BINARY)
+        return cells.Part(kind, rows, [*columns, value], (dictionary(0, [bytes(size)]),), **rest)
+
+    ids = [cells.numbers(b"id", [0, 1, 2], coding=cells.PLAIN), struct(b"resource", cells.numbers(b"id", [0, 1, 0], coding=cells.PLAIN))]
+    own = cells.pairs(31, *((row, b"a", b"x") for row in range(3)))
+    further = one(2, second, [cells.numbers(b"parent_id", [])], 0)
+    return cells.batch(0, one(30, first, ids, 3), own) + cells.batch(1, further)
+
+
+def answer(command, words, capture):
+    run = subprocess.run([*command, *words], input=capture, capture_output=True, check=False)
     return run.stdout, run.stderr, run.returncode
 
 
 def right(case, commands):
     """Whether each command gives what is expected for the batch of a case; prints the case."""
     capture, fine = frame(case.batch), True
-    for job in ("decode", "replay"):
-        for command in commands:
-            if answer(command, job, capture) != expected(case, job):
-                print(f"ANOTHER ANSWER by {' '.join(command)} {job} logs:", end=" ")
-                fine = False
+    for command in commands:
+        given = [job for job in ("decode", "replay") if answer(command, [job, "logs"], capture) != expected(case, job)]
+        given += ["filter"] if answer(command, FILTER, capture)[1:] != expected(case, "filter")[1:] else []
+        for job in given:
+            print(f"ANOTHER ANSWER by {' '.join(command)} {job} logs:", end=" ")
+        fine = fine and not given
     print(f"{case.name}: {case.refusal or 'accepted'}", flush=True)
+    return fine
+
+
+def right_after_ids_that_fall(more, commands):
+    """Whether what a batch holds counts though it isn't filtered; prints it."""
+    capture = held_twice(MOST_HELD - 2 * VALUE - 100, 100 + more)
+    said = "frame 0: batch 0 not filtered: ids fall\n"
+    said += "frame 1: batch 1 refused: stage 4 HeldTooMuch payload -\n" if more else ""
+    fine = all(answer(command, FILTER, capture)[1:] == (said.encode(), 1) for command in commands)
+    print(f"{'' if fine else 'ANOTHER ANSWER: '}{'one byte more' if more else 'the most bytes'} held after ids that fall", flush=True)
     return fine
 
 
 def main(program, reference):
     commands = [[program], reference] if reference else [[program]]
     found = [right(case, commands) for cases in (row_cases, dictionary_cases, weight_cases) for case in cases()]
+    found += [right_after_ids_that_fall(more, commands) for more in (0, 1)]
     return 0 if all(found) else 1
 
 

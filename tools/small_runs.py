@@ -13,6 +13,8 @@ EXAMPLES = os.path.join(os.path.dirname(os.path.abspath(__file__)), "..", "examp
 REQUESTS = {"logs": "pairs_pause", "traces": "row_events_pause", "metrics": "row_points_pause"}
 MAIN = {"logs": "30", "traces": "40", "metrics": "10"}
 READERS = ("schema", "show", "decode", "status", "replay")
+# Requests of which `filter` keeps some of each signal, by a pair of a resource.
+GROUPS, PAIR = "row_groups_without_items", ["resource", "r", "one"]
 PACKED = b"\x01\x00\x00\x00\x02xx"
 RESET = b"\x02\x00\x00\x00\x00"
 
@@ -77,16 +79,27 @@ def events(capture):
     return b"".join(sent[:2]) + frame(field(2, b"")) + b"".join(sent[2:])
 
 
+def example(*path):
+    with open(os.path.join(EXAMPLES, *path), "rb") as file:
+        return file.read()
+
+
+def groups(program, name):
+    """The batches of a signal of which `filter` keeps some."""
+    return run(program, Job(["encode", name], example("transits", name, GROUPS + ".capture"))).out
+
+
 def jobs(program):
-    """Each job of each signal over a capture, of which a frame is refused; for `unfile` over the file that `file` makes."""
-    found = []
+    """Each job of each signal over a capture, of which a frame is refused; for `filter` also over one with batches that aren't
+    filtered, and for `unfile` over the file that `file` makes."""
+    found = [Job(["filter", "logs", "item", "a", "x"], example("filters", "plain_resource_ids.capture"))]
     for name, requests in REQUESTS.items():
-        with open(os.path.join(EXAMPLES, "transits", name, requests + ".capture"), "rb") as file:
-            sent = file.read()
+        sent = example("transits", name, requests + ".capture")
         requests = refused_once(sent)
         batches = refused_once(run(program, Job(["encode", name], requests)).out)
         found += [Job(["tidy", name], requests), Job(["encode", name], requests), Job(["list"], batches)]
         found += [Job([job, name], batches) for job in READERS]
+        found += [Job(["filter", name, *PAIR], refused_once(groups(program, name)))]
         found += [Job(["resend", name, "2"], refused_once(events(sent)))]
         made = Job(["file", name, MAIN[name], "0"], batches)
         found += [made, Job(["unfile", name, MAIN[name]], run(program, made).out)]
