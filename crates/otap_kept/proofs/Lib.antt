@@ -37,6 +37,7 @@ pub mod ProfileTables
 pub mod KindsKept
 pub mod Numberings
 pub mod IdRuns
+pub mod ComingBack
 pub mod TextPairs
 pub mod PairHolders
 pub mod MainPlaces

@@ -3,6 +3,7 @@ pub mod Rows
 pub mod Tables
 pub mod Accepted
 pub mod Kept
+pub mod Falling
 pub mod Filtered
 pub mod Numbering
 pub mod Holding

@@ -1,5 +1,5 @@
 //! What is kept, in terms of telemetry and of weights. The functions do nothing: their contracts are the laws.
-ghost use Rattle.std.specs.Prelude.{◌≡◌, ◌≤◌, ◌||◌, true, All, List, filter, length, map, nat_lt};
+ghost use Rattle.std.specs.Prelude.{◌≡◌, ◌≤◌, ◌||◌, true, false, All, List, filter, length, map, nat_lt};
 ghost use Rattle.otlp_model.specs.declared.request.Signal.{Signal};
 ghost use Rattle.otlp_model.specs.declared.value.Pair.{Pair};
 ghost use Rattle.otap_attrs.specs.declared.refusal.RowRefusal.{RowRefusal};
@@ -12,8 +12,9 @@ ghost use Rattle.otap_checks.specs.RowDefects.{RowDefect};
 ghost use Rattle.otap_groups.specs.ProfileTables.{IsProfileTable};
 ghost use Rattle.otap_kept.specs.declared.whose.Whose.{Whose};
 ghost use Rattle.otap_kept.specs.Accepted.{AreAccepted};
+ghost use Rattle.otap_kept.specs.Falling.{SomeIdComesBack};
 ghost use Rattle.otap_kept.specs.Filtered.{IsNoHeavier, TellsFilter};
-ghost use Rattle.otap_kept.specs.Kept.{is_ordered, kept};
+ghost use Rattle.otap_kept.specs.Kept.{is_ordered, kept, kept_rows};
 
 /// Law: where its new numbers don't fall, the telemetry of what is kept of a batch is the filter of the batch's telemetry.
 pub fn what_is_kept_tells_the_filter()
@@ -47,4 +48,13 @@ pub fn what_is_kept_can_be_written()
         ≡ filter (λ kind. is_kind kind (main_of of) || nat_lt 0 (length (table_named kind (kept of by pair tables)).rows)) (kinds_of of) }
     ensures items { (of : Signal) (by : Whose) (pair : Pair) (tables : List Table)
         → length (table_named (main_of of) (kept of by pair tables)).rows ≤ length (table_named (main_of of) tables).rows }
+{}
+
+/// Law: what is kept isn't ordered exactly where, among the main rows that are kept, the id of a resource or of a scope comes back
+/// after another one.
+pub fn numbers_fall_where_an_id_comes_back()
+    ensures falls { (of : Signal) (by : Whose) (pair : Pair) (tables : List Table) → is_ordered of by pair tables ≡ false
+        → SomeIdComesBack (kept_rows of by pair tables) }
+    ensures comes_back { (of : Signal) (by : Whose) (pair : Pair) (tables : List Table) → SomeIdComesBack (kept_rows of by pair tables)
+        → is_ordered of by pair tables ≡ false }
 {}
