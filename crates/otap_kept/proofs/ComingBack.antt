@@ -1,5 +1,5 @@
 -- New numbers fall where an id comes back after another one, and nowhere else.
-use Rattle.std.proofs.Common.{◌≡◌, ℕ, zero, suc, ◌+◌, ◌≤◌, ◌<◌, true, false, List, [], ◌∷◌, get_or, Option, None, Some, map, refl, sym, ◌∙◌, ap, subst, inl, inr, arith}
+use Rattle.std.proofs.Common.{◌≡◌, ℕ, zero, suc, ◌≤◌, ◌<◌, true, false, List, [], ◌∷◌, get_or, Option, None, Some, map, refl, sym, ◌∙◌, ap, subst, inl, inr, arith}
 use Rattle.std.specs.Prelude.{◌⊎◌, nat_eq, nat_le}
 use Rattle.std.specs.List.{AllByRecursion}
 use Rattle.std.proofs.lemmas.Bool.{and_from, and_parts, cases_Bool, eqb-true, eq-eqb, false≢true}
@@ -165,7 +165,7 @@ comes_back n last (Some id ∷ ids) many = elim (cases_Bool (id_is last (Some id
 ]
 
 -- WHERE NEW NUMBERS FALL an id comes back
-falls_back : (ids : List (Option ℕ)) → numbers_rise ids ≡ false → ComesBack ids
+pub falls_back : (ids : List (Option ℕ)) → numbers_rise ids ≡ false → ComesBack ids
 falls_back ids falls = elim (twice_or_once (runs_after None ids)) [
   | inl twice ↦ comes_back twice.0 None ids (let many = twice.1 in omega (arith, many))
   | inr once ↦

@@ -101,7 +101,7 @@ shape_kept all tables kind of from clean (why.BadCbor refusal) is = is
 shape_kept all tables kind of from clean why.TwoValues is = is
 shape_kept all tables kind of from clean (why.Memory error) is = is
 
-items_listed : (of : Signal) → Contains (links_of of) (items (main_of of))
+pub items_listed : (of : Signal) → Contains (links_of of) (items (main_of of))
 unfolding links_of
 items_listed signal.Logs = (0, omega arith, refl)
 items_listed signal.Traces = (0, omega arith, refl)

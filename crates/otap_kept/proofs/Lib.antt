@@ -38,6 +38,7 @@ pub mod KindsKept
 pub mod Numberings
 pub mod IdRuns
 pub mod ComingBack
+pub mod DeltaIds
 pub mod TextPairs
 pub mod PairHolders
 pub mod MainPlaces

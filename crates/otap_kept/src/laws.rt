@@ -12,7 +12,7 @@ ghost use Rattle.otap_checks.specs.RowDefects.{RowDefect};
 ghost use Rattle.otap_groups.specs.ProfileTables.{IsProfileTable};
 ghost use Rattle.otap_kept.specs.declared.whose.Whose.{Whose};
 ghost use Rattle.otap_kept.specs.Accepted.{AreAccepted};
-ghost use Rattle.otap_kept.specs.Falling.{SomeIdComesBack};
+ghost use Rattle.otap_kept.specs.Falling.{HasPlainIds, SomeIdComesBack};
 ghost use Rattle.otap_kept.specs.Filtered.{IsNoHeavier, TellsFilter};
 ghost use Rattle.otap_kept.specs.Kept.{is_ordered, kept, kept_rows};
 
@@ -57,4 +57,10 @@ pub fn numbers_fall_where_an_id_comes_back()
         → SomeIdComesBack (kept_rows of by pair tables) }
     ensures comes_back { (of : Signal) (by : Whose) (pair : Pair) (tables : List Table) → SomeIdComesBack (kept_rows of by pair tables)
         → is_ordered of by pair tables ≡ false }
+{}
+
+/// Law: what is kept is ordered where the main table stores neither the ids of resources nor those of scopes as they are.
+pub fn only_plain_ids_fall()
+    ensures { (of : Signal) (by : Whose) (pair : Pair) (tables : List Table) → AreAccepted of tables → All IsTable tables
+        → (HasPlainIds (table_named (main_of of) tables) → ⊥) → is_ordered of by pair tables ≡ true }
 {}
