@@ -39,6 +39,7 @@ pub mod Numberings
 pub mod IdRuns
 pub mod ComingBack
 pub mod DeltaIds
+pub mod ReadAgain
 pub mod TextPairs
 pub mod PairHolders
 pub mod MainPlaces

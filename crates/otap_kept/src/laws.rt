@@ -1,20 +1,29 @@
 //! What is kept, in terms of telemetry and of weights. The functions do nothing: their contracts are the laws.
-ghost use Rattle.std.specs.Prelude.{◌≡◌, ◌≤◌, ◌||◌, true, false, All, List, filter, length, map, nat_lt};
+ghost use Rattle.std.specs.Prelude.{◌≡◌, ◌≤◌, ◌^◌, ◌||◌, ℕ, true, false, All, IsPermutation, List, Option, filter, length, map, nat_lt};
 ghost use Rattle.otlp_model.specs.declared.request.Signal.{Signal};
 ghost use Rattle.otlp_model.specs.declared.value.Pair.{Pair};
 ghost use Rattle.otap_attrs.specs.declared.refusal.RowRefusal.{RowRefusal};
+ghost use Rattle.otap_attrs.specs.Index.{attribute_rows_in};
 ghost use Rattle.otap_cells.specs.declared.payload.Kind.{Kind};
+ghost use Rattle.otap_cells.specs.Continuing.{has_attributes};
 ghost use Rattle.otap_cells.specs.Named.{table_named};
 ghost use Rattle.otap_cells.specs.Payload.{is_kind, kinds_of, main_of};
 ghost use Rattle.otap_cells.specs.Tables.{IsTable, Table};
 ghost use Rattle.otap_cells.specs.Weights.{weight_of_tables};
+ghost use Rattle.otap_checks.specs.Reading.{main_rows_in, part_rows_in};
 ghost use Rattle.otap_checks.specs.RowDefects.{RowDefect};
+ghost use Rattle.otap_groups.specs.Children.{numbered, unnumbered};
+ghost use Rattle.otap_groups.specs.Flat.{part_rows};
+ghost use Rattle.otap_groups.specs.Kinds.{IsPart};
 ghost use Rattle.otap_groups.specs.ProfileTables.{IsProfileTable};
+ghost use Rattle.otap_groups.specs.Rows.{ChildRow};
 ghost use Rattle.otap_kept.specs.declared.whose.Whose.{Whose};
 ghost use Rattle.otap_kept.specs.Accepted.{AreAccepted};
 ghost use Rattle.otap_kept.specs.Falling.{HasPlainIds, SomeIdComesBack};
 ghost use Rattle.otap_kept.specs.Filtered.{IsNoHeavier, TellsFilter};
 ghost use Rattle.otap_kept.specs.Kept.{is_ordered, kept, kept_rows};
+ghost use Rattle.otap_kept.specs.Rows.{own_cells, parts_under, renewed, under};
+ghost use Rattle.otap_kept.specs.Tables.{kept_attributes, kept_parts};
 
 /// Law: where its new numbers don't fall, the telemetry of what is kept of a batch is the filter of the batch's telemetry.
 pub fn what_is_kept_tells_the_filter()
@@ -63,4 +72,15 @@ pub fn numbers_fall_where_an_id_comes_back()
 pub fn only_plain_ids_fall()
     ensures { (of : Signal) (by : Whose) (pair : Pair) (tables : List Table) → AreAccepted of tables → All IsTable tables
         → (HasPlainIds (table_named (main_of of) tables) → ⊥) → is_ordered of by pair tables ≡ true }
+{}
+
+/// Law: read by the definitions by which any table is read, the tables that are kept have the rows that are kept, with their new
+/// numbers: main rows and parts in their order, and attributes in some order.
+pub fn what_is_kept_reads_as_renewed()
+    ensures main { (of : Signal) (by : Whose) (pair : Pair) (tables : List Table) → AreAccepted of tables → is_ordered of by pair tables ≡ true
+        → main_rows_in (table_named (main_of of) (kept of by pair tables)) ≡ renewed (kept_rows of by pair tables) }
+    ensures parts { (kind : Kind) (ids : List (Option ℕ)) (rows : List ChildRow) → IsPart kind → length ids ≤ 2 ^ 32 → length rows ≤ 2 ^ 32
+        → part_rows_in (kept_parts kind (parts_under ids rows)) ≡ part_rows numbered own_cells 0 (parts_under ids rows) }
+    ensures attributes { (kind : Kind) (ids : List (Option ℕ)) (rows : List ChildRow) → has_attributes kind ≡ true → length ids ≤ 2 ^ 32
+        → IsPermutation (part_rows unnumbered own_cells 0 (under ids rows)) (attribute_rows_in (kept_attributes kind (under ids rows))) }
 {}
