@@ -19,7 +19,7 @@ use Rattle.otap_consume.specs.Receiving.{ReceivedAfter}
 use Rattle.otap_transit.specs.Arrivals.{AreLaidSets, AreMessagesOfSets, Arrives, IsFitSet, SetArrives}
 use Rattle.otap_transit.specs.Layouts.{AreLaidPayloads}
 use Rattle.otap_transit.specs.Transits.{payloads_in_all}
-use Rattle.otap_filter.specs.Filtering.{Answer, Answers, Batch, Given, messages_sent, outcomes_in, sets_before}
+use Rattle.otap_filter.specs.Filtering.{Answer, Answers, Batch, Given, Refused, Reset, Unordered, messages_sent, outcomes_in, sets_before}
 
 -- ---- the messages since the latest reset
 
@@ -69,3 +69,13 @@ pub record HasOutcome (of : Signal) (whose : Whose) (pair : Pair) (given : List 
   pub outcome : Outcome
   pub received : ReceivedAfter (meaning_by of) (outcomes_in given) frame outcome
   pub answered : IsSent of whose pair outcome ⊎ HasAnswer of whose pair given outcome
+
+-- ---- that there is no other one
+
+-- answers of one kind, with the same id or the same refusal; messages may have other bytes
+abbrev pub AreAlike : Answer → Answer → Type 0
+AreAlike (Batch id message) (Batch other bytes) = id ≡ other
+AreAlike (Unordered id) (Unordered other) = id ≡ other
+AreAlike (Refused refusal) (Refused other) = refusal ≡ other
+AreAlike Reset Reset = ⊤
+AreAlike answer other = ⊥

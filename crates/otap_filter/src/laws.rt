@@ -1,14 +1,15 @@
 //! What a filter writes, and what the far end reads of it. The functions do nothing: their contracts are the laws.
 
-ghost use Rattle.std.specs.Prelude.{◌<◌, ◌^◌, All, List, [], length};
+ghost use Rattle.std.specs.Prelude.{◌<◌, ◌^◌, ℕ, ℤ, All, List, [], length};
 ghost use Rattle.lists.specs.EachAfter.{AllAfter};
 ghost use Rattle.otlp_model.specs.declared.request.Signal.{Signal};
 ghost use Rattle.otlp_model.specs.declared.value.Pair.{Pair};
 ghost use Rattle.otap_capture.specs.Capture.{Frame};
 ghost use Rattle.otap_consume.specs.Bytes.{IsOfBytes};
+ghost use Rattle.otap_consume.specs.Outcomes.{Outcome};
 ghost use Rattle.otap_kept.specs.declared.whose.Whose.{Whose};
-ghost use Rattle.otap_filter.specs.Filtering.{AreFiltered, Given};
-ghost use Rattle.otap_filter.specs.Runs.{AreMessagesOf, HasArrived, HasOutcome};
+ghost use Rattle.otap_filter.specs.Filtering.{Answer, Answers, AreFiltered, Batch, Given, Unordered};
+ghost use Rattle.otap_filter.specs.Runs.{AreAlike, AreMessagesOf, HasArrived, HasOutcome};
 
 use otap_consume::receiving_laws::received_some_outcome;
 use otap_kept::laws::{
@@ -58,3 +59,12 @@ pub fn each_frame_has_an_outcome()
 {
     received_some_outcome();
 }
+
+/// An outcome after frames that gave something has one kind of answer: a batch that is answered by a message isn't one of which what
+/// is kept isn't ordered, and two answers have the same id or the same refusal. So only the bytes of a message are free.
+pub fn one_kind_of_answer()
+    ensures kind { (of : Signal) (whose : Whose) (pair : Pair) (given : List Given) (outcome : Outcome) (id other : ℤ) (message : List ℕ)
+        → Answers of whose pair given outcome (Batch id message) → Answers of whose pair given outcome (Unordered other) → ⊥ }
+    ensures alike { (of : Signal) (whose : Whose) (pair : Pair) (given : List Given) (outcome : Outcome) (a b : Answer)
+        → Answers of whose pair given outcome a → Answers of whose pair given outcome b → AreAlike a b }
+{}
