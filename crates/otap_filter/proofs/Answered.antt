@@ -12,12 +12,12 @@ use Rattle.otap_kept.specs.Kept.{is_ordered}
 use Rattle.otap_consume.specs.Outcomes.{Outcome, Accepted}
 use Rattle.otap_consume.specs.Outcomes as outcomes
 use Rattle.otap_consume.specs.Receiving.{ReceivedAfter}
-use Rattle.otap_filter.specs.Filtering.{FiltersAfter, Given, Refused, Reset, Unordered, outcomes_in}
-use Rattle.otap_filter.specs.Runs.{HasAnswer, IsSent}
+use Rattle.otap_filter.specs.Filtering.{FiltersAfter, FrameResult, Refused, Reset, Unordered, outcomes_in}
+use Rattle.otap_filter.specs.Runs.{HasAnswer, NeedsMessage}
 
 module _ (of : Signal) (whose : Whose) (pair : Pair) where
   -- the outcomes of frames that were filtered are those of a receiver
-  pub are_received : (past : List Frame) (before : List Given) (frames : List Frame) (given : List Given)
+  pub are_received : (past : List Frame) (before : List FrameResult) (frames : List Frame) (given : List FrameResult)
       → EachAfter (λ past before frame gives. FiltersAfter of whose pair before frame gives) past before frames given
       → EachAfter (λ past before frame outcome. ReceivedAfter (meaning_by of) before frame outcome) past (outcomes_in before) frames (outcomes_in given)
   are_received past before [] [] each = tt
@@ -26,10 +26,10 @@ module _ (of : Signal) (whose : Whose) (pair : Pair) where
   are_received past before (frame ∷ frames) (g ∷ given) each = (
     each.0.received,
     subst (λ (os : List Outcome). EachAfter (λ past before frame outcome. ReceivedAfter (meaning_by of) before frame outcome) (past ++ frame ∷ []) os frames (outcomes_in given))
-        (map-append (λ (g : Given). g.outcome) before (g ∷ [])) (are_received (past ++ frame ∷ []) (before ++ g ∷ []) frames given each.1),
+        (map-append (λ (g : FrameResult). g.outcome) before (g ∷ [])) (are_received (past ++ frame ∷ []) (before ++ g ∷ []) frames given each.1),
   )
 
-  pub answered : (given : List Given) (outcome : Outcome) → IsSent of whose pair outcome ⊎ HasAnswer of whose pair given outcome
+  pub answered : (given : List FrameResult) (outcome : Outcome) → NeedsMessage of whose pair outcome ⊎ HasAnswer of whose pair given outcome
   answered given (Accepted batch tables) =
       elim (cases_Bool (is_ordered of whose pair tables)) [
         | inl ordered ↦ inl ordered

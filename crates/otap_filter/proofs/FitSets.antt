@@ -18,8 +18,8 @@ use Rattle.otap_checks.specs.RowDefects.{RowDefect}
 use Rattle.otap_groups.specs.ProfileTables.{IsProfileTable}
 use Rattle.otap_signals.specs.BySignal.{meaning_by, request_in}
 use Rattle.otap_kept.specs.declared.whose.Whose.{Whose}
-use Rattle.otap_kept.specs.Accepted.{AreAccepted}
-use Rattle.otap_kept.specs.Filtered.{IsNoHeavier, TellsFilter}
+use Rattle.otap_kept.specs.Clean.{AreCleanAndLight}
+use Rattle.otap_kept.specs.Filtered.{IsNoHeavier, MeansFilter}
 use Rattle.otap_kept.specs.Kept.{is_ordered, kept}
 use Rattle.otap_consume.specs.Defects.{IsWithinLimits, held_after}
 use Rattle.otap_consume.specs.LateStages.{HasFineRows}
@@ -42,18 +42,19 @@ in_kept_order of tables order = record { has = λ kind. is_kind kind (main_of of
 
 -- what is true of all that is kept
 pub record KeptLaws : Type 0 where
-  pub profile : (of : Signal) (whose : Whose) (pair : Pair) (tables : List Table) → AreAccepted of tables → All IsTable tables → is_ordered of whose pair tables ≡ true
+  pub profile : (of : Signal) (whose : Whose) (pair : Pair) (tables : List Table) → AreCleanAndLight of tables → All IsTable tables
+      → is_ordered of whose pair tables ≡ true
       → All IsProfileTable (kept of whose pair tables)
   pub order : (of : Signal) (whose : Whose) (pair : Pair) (tables : List Table) → IsKeptOrder of (kept of whose pair tables)
   pub items : (of : Signal) (whose : Whose) (pair : Pair) (tables : List Table)
       → length (table_named (main_of of) (kept of whose pair tables)).rows ≤ length (table_named (main_of of) tables).rows
   pub rows : (of : Signal) (whose : Whose) (pair : Pair) (tables : List Table) → weight_of_tables (kept of whose pair tables) ≤ weight_of_tables tables
-  pub clean : (of : Signal) (whose : Whose) (pair : Pair) (tables : List Table) → AreAccepted of tables → is_ordered of whose pair tables ≡ true
+  pub clean : (of : Signal) (whose : Whose) (pair : Pair) (tables : List Table) → AreCleanAndLight of tables → is_ordered of whose pair tables ≡ true
       → (kind : Kind) (wrong : RowRefusal) → RowDefect of (kept of whose pair tables) kind wrong → ⊥
-  pub light : (of : Signal) (whose : Whose) (pair : Pair) (tables : List Table) → AreAccepted of tables → is_ordered of whose pair tables ≡ true
+  pub light : (of : Signal) (whose : Whose) (pair : Pair) (tables : List Table) → AreCleanAndLight of tables → is_ordered of whose pair tables ≡ true
       → IsNoHeavier of whose pair tables
-  pub tells : (of : Signal) (whose : Whose) (pair : Pair) (tables : List Table) → AreAccepted of tables → is_ordered of whose pair tables ≡ true
-      → TellsFilter of whose pair tables
+  pub tells : (of : Signal) (whose : Whose) (pair : Pair) (tables : List Table) → AreCleanAndLight of tables → is_ordered of whose pair tables ≡ true
+      → MeansFilter of whose pair tables
 
 -- tables of the profile are fit
 abbrev pub ProfileTablesFit : Type 0
@@ -63,7 +64,7 @@ ProfileTablesFit = (of : Signal) (tables : List Table) → AreInOrder of tables 
 -- ---- the tables of a batch that is accepted
 
 pub record HaveBeenAccepted (of : Signal) (tables : List Table) : Type 0 where
-  pub accepted : AreAccepted of tables
+  pub accepted : AreCleanAndLight of tables
   pub items : length (rows_named (main_of of) tables) ≤ item_limit
   pub tree : weight_of (request_in of tables) ≤ weight_limit
 

@@ -7,20 +7,21 @@ use Rattle.otap_cells.specs.Tables.{IsTable, Table}
 use Rattle.otap_cells.specs.Weights.{row_weight_limit, weight_of_tables}
 use Rattle.otap_groups.specs.ProfileTables.{IsProfileTable}
 use Rattle.otap_kept.specs.declared.whose.Whose.{Whose}
-use Rattle.otap_kept.specs.Accepted.{AreAccepted}
+use Rattle.otap_kept.specs.Clean.{AreCleanAndLight}
 use Rattle.otap_kept.specs.Kept.{is_ordered, kept}
 use Rattle.otap_produce.specs.TableOrder.{AreInOrder, HaveWritable}
 use Rattle.otap_filter.specs.Filters.{FilterIn}
 use Rattle.otap_filter.specs.Inside.{CanBeSent}
 use Rattle.otap_filter.proofs.FitSets.{IsKeptOrder, in_kept_order}
 
-module _ (profile : (of : Signal) (whose : Whose) (pair : Pair) (tables : List Table) → AreAccepted of tables → All IsTable tables → is_ordered of whose pair tables ≡ true
+module _ (profile : (of : Signal) (whose : Whose) (pair : Pair) (tables : List Table) → AreCleanAndLight of tables → All IsTable tables → is_ordered of whose pair tables ≡ true
     → All IsProfileTable (kept of whose pair tables))
     (order : (of : Signal) (whose : Whose) (pair : Pair) (tables : List Table) → IsKeptOrder of (kept of whose pair tables))
     (lighter : (of : Signal) (whose : Whose) (pair : Pair) (tables : List Table) → weight_of_tables (kept of whose pair tables) ≤ weight_of_tables tables)
     (writable : (of : Signal) (tables : List Table) → AreInOrder of tables → All IsProfileTable tables → HaveWritable of tables) where
   -- the tables that were found, where they are ordered
-  pub can_be_sent : (of : Signal) (whose : Whose) (pair : Pair) (tables : List Table) (found : Option (List Table)) → AreAccepted of tables → All IsTable tables
+  pub can_be_sent : (of : Signal) (whose : Whose) (pair : Pair) (tables : List Table) (found : Option (List Table)) → AreCleanAndLight of tables
+      → All IsTable tables
       → IfSome found (λ set. set ≡ kept of whose pair tables) → IfSome found (λ set. is_ordered of whose pair tables ≡ true)
       → (f : FilterIn) → of ≡ f.segment.signal → IfSome found (CanBeSent f)
   can_be_sent of whose pair tables None accepted sound is ordered f same = tt

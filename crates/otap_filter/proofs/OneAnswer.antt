@@ -6,10 +6,10 @@ use Rattle.otlp_model.specs.declared.value.Pair.{Pair}
 use Rattle.otap_kept.specs.declared.whose.Whose.{Whose}
 use Rattle.otap_consume.specs.Outcomes.{Outcome, Accepted}
 use Rattle.otap_consume.specs.Outcomes as outcomes
-use Rattle.otap_filter.specs.Filtering.{Answer, Answers, Batch, Given, Refused, Reset, Unordered}
+use Rattle.otap_filter.specs.Filtering.{Answer, Answers, Batch, FrameResult, Refused, Reset, Unordered}
 use Rattle.otap_filter.specs.Runs.{AreAlike}
 
-module _ (of : Signal) (whose : Whose) (pair : Pair) (given : List Given) where
+module _ (of : Signal) (whose : Whose) (pair : Pair) (given : List FrameResult) where
   -- what is kept is ordered, or it isn't
   pub not_both : (outcome : Outcome) (id other : ℤ) (message : List ℕ) → Answers of whose pair given outcome (Batch id message)
       → Answers of whose pair given outcome (Unordered other) → ⊥

@@ -15,19 +15,19 @@ use Rattle.otap_consume.specs.declared.refusal.Refusal.{Refusal}
 use Rattle.otap_consume.specs.Outcomes.{Outcome, Accepted, segment}
 use Rattle.otap_consume.specs.Outcomes as outcomes
 use Rattle.otap_transit.specs.Arrivals.{SetIn}
-use Rattle.otap_filter.specs.Filtering.{Answer, Batch, Given, Refused, Reset, Unordered, is_reset, kept_set, message_if, messages_sent, outcomes_in, set_if, sets_before, sets_sent}
+use Rattle.otap_filter.specs.Filtering.{Answer, Batch, FrameResult, Refused, Reset, Unordered, is_reset, kept_set, message_if, messages_sent, outcomes_in, set_if, sets_before, sets_sent}
 
 -- what a frame gives, by its parts
-abbrev pub gave : Outcome → Answer → Given
+abbrev pub gave : Outcome → Answer → FrameResult
 gave outcome answer = record { outcome = outcome; answer = answer }
 
 -- ---- messages
 
-abbrev messages_in : List Given → List (List ℕ)
+abbrev messages_in : List FrameResult → List (List ℕ)
 messages_in given = flat_map (λ g. message_if g.answer) given
 
 -- where no reset comes
-module _ (given : List Given) (g : Given) (stays : is_reset g ≡ false) where
+module _ (given : List FrameResult) (g : FrameResult) (stays : is_reset g ≡ false) where
   since_stays : since is_reset (given ++ g ∷ []) ≡ since is_reset given ++ g ∷ []
   since_stays = since-append is_reset given (g ∷ []) ∙ rest
     where
@@ -38,24 +38,25 @@ module _ (given : List Given) (g : Given) (stays : is_reset g ≡ false) where
   unfolding messages_sent
   messages_more = ap messages_in since_stays ∙ flat_map-append (λ g. message_if g.answer) (since is_reset given) (g ∷ [])
 
-module _ (given : List Given) (batch : BatchContent) (tables : List Table) where
+module _ (given : List FrameResult) (batch : BatchContent) (tables : List Table) where
   pub messages_batch : (id : ℤ) (message : List ℕ) → messages_sent (given ++ gave (Accepted batch tables) (Batch id message) ∷ []) ≡ messages_sent given ++ message ∷ []
   messages_batch id message = messages_more given (gave (Accepted batch tables) (Batch id message)) refl
 
   pub messages_unordered : (id : ℤ) → messages_sent (given ++ gave (Accepted batch tables) (Unordered id) ∷ []) ≡ messages_sent given
   messages_unordered id = messages_more given (gave (Accepted batch tables) (Unordered id)) refl ∙ append-nil (messages_sent given)
 
-pub messages_refused : (given : List Given) (refusal answered : Refusal) → messages_sent (given ++ gave (outcomes.Refused refusal) (Refused answered) ∷ []) ≡ messages_sent given
+pub messages_refused : (given : List FrameResult) (refusal answered : Refusal)
+    → messages_sent (given ++ gave (outcomes.Refused refusal) (Refused answered) ∷ []) ≡ messages_sent given
 messages_refused given refusal answered =
     messages_more given (gave (outcomes.Refused refusal) (Refused answered)) refl ∙ append-nil (messages_sent given)
 
-pub messages_reset : (given : List Given) → messages_sent (given ++ gave outcomes.Reset Reset ∷ []) ≡ []
+pub messages_reset : (given : List FrameResult) → messages_sent (given ++ gave outcomes.Reset Reset ∷ []) ≡ []
 unfolding messages_sent
 messages_reset given = ap messages_in (since-append is_reset given (gave outcomes.Reset Reset ∷ []))
 
 -- ---- sets
 
-module _ (of : Signal) (whose : Whose) (pair : Pair) (given : List Given) where
+module _ (of : Signal) (whose : Whose) (pair : Pair) (given : List FrameResult) where
   abbrev of_outcome : Outcome → List SetIn
   of_outcome = set_if of whose pair
 
@@ -63,8 +64,8 @@ module _ (of : Signal) (whose : Whose) (pair : Pair) (given : List Given) where
   before = outcomes_in given
 
   -- the outcomes with one more
-  pub outcomes_more : (g : Given) → outcomes_in (given ++ g ∷ []) ≡ outcomes_in given ++ g.outcome ∷ []
-  outcomes_more g = map-append (λ (g : Given). g.outcome) given (g ∷ [])
+  pub outcomes_more : (g : FrameResult) → outcomes_in (given ++ g ∷ []) ≡ outcomes_in given ++ g.outcome ∷ []
+  outcomes_more g = map-append (λ (g : FrameResult). g.outcome) given (g ∷ [])
 
   accepted_more : (batch : BatchContent) (tables : List Table) (answer : Answer)
       → sets_before of whose pair (given ++ gave (Accepted batch tables) answer ∷ []) ≡ sets_before of whose pair given ++ flat_map of_outcome (Accepted batch tables ∷ [])

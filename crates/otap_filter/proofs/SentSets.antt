@@ -25,12 +25,12 @@ use Rattle.otap_consume.specs.Receiving.{ReceivedAfter}
 use Rattle.otap_transit.specs.Arrivals.{AreLaidSets, AreMessagesOfSets, Arrives, IsFitSet, IsLaidSet, IsMessageOfSet, SetArrives, SetIn}
 use Rattle.otap_transit.specs.Transits.{payloads_in_all}
 use Rattle.otap_transit.proofs.FitTables.{all_ids}
-use Rattle.otap_filter.specs.Filtering.{Answer, Answers, AreFiltered, Batch, FiltersAfter, Given, IsFiltered, Refused, Reset, Unordered, kept_set, messages_sent, outcomes_in, sets_before, sets_sent}
+use Rattle.otap_filter.specs.Filtering.{Answer, Answers, AreFiltered, Batch, FiltersAfter, FrameResult, IsFiltered, Refused, Reset, Unordered, kept_set, messages_sent, outcomes_in, sets_before, sets_sent}
 use Rattle.otap_filter.specs.Runs.{FilterArrives, HasArrived, tables_read}
 use Rattle.otap_filter.proofs.FitSets.{HaveBeenAccepted, KeptLaws, ProfileTablesFit, fit_kept, have_been}
 use Rattle.otap_filter.proofs.SentGrown.{gave, messages_batch, messages_refused, messages_reset, messages_unordered, sets_ordered, sets_refused, sets_reset, sets_unordered}
 
-pub record AreSent (of : Signal) (whose : Whose) (pair : Pair) (given : List Given) : Type 0 where
+pub record AreSent (of : Signal) (whose : Whose) (pair : Pair) (given : List FrameResult) : Type 0 where
   pub fit : All (IsFitSet (meaning_by of)) (sets_before of whose pair given)
   pub messages : AreMessagesOfSets (sets_before of whose pair given) (messages_sent given)
   pub laid : AreLaidSets (sets_before of whose pair given) (messages_sent given)
@@ -50,21 +50,21 @@ module _ (laws : KeptLaws) (fits : ProfileTablesFit) (of : Signal) (whose : Whos
   unfolding sets_sent messages_sent
   none_sent = record { fit = All-nil (IsFitSet (meaning_by of)); messages = tt; laid = tt; few = omega arith }
 
-  abbrev sets_of : List Given → List SetIn
+  abbrev sets_of : List FrameResult → List SetIn
   sets_of = sets_before of whose pair
 
-  longer : (given : List Given) (g : Given) → length (given ++ g ∷ []) ≡ length given + 1
+  longer : (given : List FrameResult) (g : FrameResult) → length (given ++ g ∷ []) ≡ length given + 1
   longer given g = length-append given (g ∷ [])
 
   -- one more frame
-  more_sent : (given : List Given) (frame : Frame) (outcome : Outcome) (answer : Answer) → AreSent of whose pair given
+  more_sent : (given : List FrameResult) (frame : Frame) (outcome : Outcome) (answer : Answer) → AreSent of whose pair given
       → ReceivedAfter (meaning_by of) (outcomes_in given) frame outcome → Answers of whose pair given outcome answer
       → AreSent of whose pair (given ++ gave outcome answer ∷ [])
   more_sent given frame (Accepted batch tables) (Batch id message) sent received is =
       let f : IsFiltered of whose pair given batch tables message = is.1 in
       let fit : IsFitSet (meaning_by of) (kept_set of whose pair batch tables)
       = fit_kept laws fits of whose pair tables (have_been of (outcomes_in given) frame batch tables received) f.sound f.ordered in
-      let g : Given = gave (Accepted batch tables) (Batch id message) in
+      let g : FrameResult = gave (Accepted batch tables) (Batch id message) in
       let sets = sets_ordered of whose pair given batch tables (Batch id message) f.ordered in
       let messages = messages_batch given batch tables id message in
       let set : SetIn = kept_set of whose pair batch tables in
@@ -110,12 +110,12 @@ module _ (laws : KeptLaws) (fits : ProfileTablesFit) (of : Signal) (whose : Whos
         few = omega (arith, ap length messages);
       }
 
-  next_sent : (given : List Given) (frame : Frame) (gives : Given) → AreSent of whose pair given → FiltersAfter of whose pair given frame gives
+  next_sent : (given : List FrameResult) (frame : Frame) (gives : FrameResult) → AreSent of whose pair given → FiltersAfter of whose pair given frame gives
       → AreSent of whose pair (given ++ gives ∷ [])
   next_sent given frame gives sent filters = more_sent given frame gives.outcome gives.answer sent filters.received filters.answers
 
   -- all frames
-  pub all_sent : (frames : List Frame) (given : List Given) → AreFiltered of whose pair frames given → AreSent of whose pair given
+  pub all_sent : (frames : List Frame) (given : List FrameResult) → AreFiltered of whose pair frames given → AreSent of whose pair given
   all_sent frames given each =
       each_after-keeps (λ past before frame gives. FiltersAfter of whose pair before frame gives) (λ past before. AreSent of whose pair before)
       (λ past before frame gives sent filters. next_sent before frame gives sent filters) [] [] frames given none_sent each
@@ -123,16 +123,17 @@ module _ (laws : KeptLaws) (fits : ProfileTablesFit) (of : Signal) (whose : Whos
   -- ---- what arrives
 
   module _ (arrive : FitTablesArrive) where
-    pub sets_arrive : (given : List Given) → AreSent of whose pair given → length given < 2 ^ 64
+    pub sets_arrive : (given : List FrameResult) → AreSent of whose pair given → length given < 2 ^ 64
         → EachAfter (SetArrives (meaning_by of)) [] [] (sets_of given) (messages_sent given)
     sets_arrive given sent few = arrive of (sets_of given) (messages_sent given) sent.fit (omega (arith, sent.few, few)) sent.messages
 
     module _ (alike : RequestsReadAlike) where
-      filter_arrives : (given : List Given) (frame : Frame) (batch : BatchContent) (tables : List Table) (id : ℤ) (message : List ℕ) → AreSent of whose pair given
+      filter_arrives : (given : List FrameResult) (frame : Frame) (batch : BatchContent) (tables : List Table) (id : ℤ) (message : List ℕ)
+          → AreSent of whose pair given
           → length given + 1 < 2 ^ 64 → ReceivedAfter (meaning_by of) (outcomes_in given) frame (Accepted batch tables) → IsFiltered of whose pair given batch tables message
           → AreSent of whose pair (given ++ gave (Accepted batch tables) (Batch id message) ∷ []) → FilterArrives of whose pair given batch tables message
       filter_arrives given frame batch tables id message sent few received f next =
-          let g : Given = gave (Accepted batch tables) (Batch id message) in
+          let g : FrameResult = gave (Accepted batch tables) (Batch id message) in
           let set : SetIn = kept_set of whose pair batch tables in
           let now : List Table = kept of whose pair tables in
           let was : HaveBeenAccepted of tables = have_been of (outcomes_in given) frame batch tables received in
@@ -153,7 +154,7 @@ module _ (laws : KeptLaws) (fits : ProfileTablesFit) (of : Signal) (whose : Whos
             rows = laws.rows of whose pair tables;
           }
 
-      arrives_if : (given : List Given) (frame : Frame) (outcome : Outcome) (answer : Answer) → AreSent of whose pair given → length given + 1 < 2 ^ 64
+      arrives_if : (given : List FrameResult) (frame : Frame) (outcome : Outcome) (answer : Answer) → AreSent of whose pair given → length given + 1 < 2 ^ 64
           → ReceivedAfter (meaning_by of) (outcomes_in given) frame outcome → Answers of whose pair given outcome answer
           → AreSent of whose pair (given ++ gave outcome answer ∷ []) → HasArrived of whose pair given (gave outcome answer)
       arrives_if given frame (Accepted batch tables) (Batch id message) sent few received is next = filter_arrives given frame batch tables id message sent few received is.1 next
@@ -163,7 +164,8 @@ module _ (laws : KeptLaws) (fits : ProfileTablesFit) (of : Signal) (whose : Whos
       arrives_if given frame (outcomes.Refused refusal) answer sent few received is next = tt
       arrives_if given frame outcomes.Reset answer sent few received is next = tt
 
-      pub all_arrive : (past : List Frame) (before : List Given) (frames : List Frame) (given : List Given) → AreSent of whose pair before → length before + length given < 2 ^ 64
+      pub all_arrive : (past : List Frame) (before : List FrameResult) (frames : List Frame) (given : List FrameResult) → AreSent of whose pair before
+          → length before + length given < 2 ^ 64
           → EachAfter (λ past before frame gives. FiltersAfter of whose pair before frame gives) past before frames given → AllAfter (HasArrived of whose pair) before given
       all_arrive past before [] [] sent few each = tt
       all_arrive past before [] (gives ∷ given) sent few each = absurd each

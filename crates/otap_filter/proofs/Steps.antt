@@ -25,10 +25,10 @@ use Rattle.otap_produce.specs.Senders.{HaveSent, IsLaidFor, SendsMessage}
 use Rattle.otap_produce.proofs.Deciding.{one_more}
 use Rattle.otap_transit.specs.Arrivals.{SetIn, tables_in_all}
 use Rattle.otap_transit.specs.Transits.{payloads_in_all}
-use Rattle.otap_filter.specs.Filtering.{Answer, Answers, Batch, Given, IsFiltered, Refused, Reset, Unordered, kept_set, messages_sent, outcomes_in, sets_before}
+use Rattle.otap_filter.specs.Filtering.{Answer, Answers, Batch, FrameResult, IsFiltered, Refused, Reset, Unordered, kept_set, messages_sent, outcomes_in, sets_before}
 use Rattle.otap_filter.specs.declared.filtered.Filtered.{Filtered}
 use Rattle.otap_filter.specs.Filters.{FilterIn, Filters, HasFiltered, StandsFor, answer_of}
-use Rattle.otap_filter.specs.Inside.{FiltersOpened, IsKept, KeepsIf, SendsSet}
+use Rattle.otap_filter.specs.Inside.{FiltersOpened, IsKeptOfOpened, KeepsIf, SendsSet}
 use Rattle.otap_filter.proofs.SentGrown.{gave, messages_batch, messages_refused, messages_reset, messages_unordered, outcomes_more, sets_ordered, sets_reset, sets_unordered}
 
 -- what is true by one rule is true by the same one
@@ -36,29 +36,30 @@ by_rule : (P : Signal → Whose → Pair → Type 0) (s t : Signal) (w x : Whose
 by_rule P s t w x p q signal whose pair is = subst (λ (u : Signal). P u x q) signal (subst (λ (v : Whose). P s v q) whose (subst (λ (r : Pair). P s w r) pair is))
 
 -- what was sent, after frames that gave these
-abbrev HasSentBefore : Signal → Whose → Pair → List Given → FilterIn → Type 0
+abbrev HasSentBefore : Signal → Whose → Pair → List FrameResult → FilterIn → Type 0
 HasSentBefore of whose pair given f = HaveSent (tables_in_all (sets_before of whose pair given)) (payloads_in_all (messages_sent given)) f.sent
 
 -- what is left to be said of a frame whose outcome is known
-record GoesOn (of : Signal) (whose : Whose) (pair : Pair) (given : List Given) (outcome : Outcome) (answer : Answer) (new : FilterIn) : Type 0 where
+record GoesOn (of : Signal) (whose : Whose) (pair : Pair) (given : List FrameResult) (outcome : Outcome) (answer : Answer) (new : FilterIn) : Type 0 where
   answers : Answers of whose pair given outcome answer
   batches : new.batches ≡ length (messages_sent (given ++ gave outcome answer ∷ []))
   sent : new.segment.broken ≡ false → HasSentBefore of whose pair (given ++ gave outcome answer ∷ []) new
 
 module _ (old new : FilterIn) (frame : Frame) (outcome : Outcome) (answer : Answer) where
   filters_by : NextOutcome (meaning_by old.segment.signal) old.segment frame outcome new.segment → new.whose ≡ old.whose → new.pair ≡ old.pair
-      → ((of : Signal) (whose : Whose) (pair : Pair) (given : List Given) → StandsFor of whose pair given old
+      → ((of : Signal) (whose : Whose) (pair : Pair) (given : List FrameResult) → StandsFor of whose pair given old
       → segments.StandsFor of (outcomes_in given ++ outcome ∷ []) new.segment → GoesOn of whose pair given outcome answer new)
       → Filters old frame new answer
   filters_by next same_whose same_pair rest = record { at = at }
     where
-      at : (of : Signal) (whose : Whose) (pair : Pair) (given : List Given) → StandsFor of whose pair given old → HasFiltered of whose pair given frame new answer
+      at : (of : Signal) (whose : Whose) (pair : Pair) (given : List FrameResult) → StandsFor of whose pair given old
+          → HasFiltered of whose pair given frame new answer
       at of whose pair given stands =
           let here : NextOutcome (meaning_by of) old.segment frame outcome new.segment =
           subst (λ (s : Signal). NextOutcome (meaning_by s) old.segment frame outcome new.segment) stands.segment.same next in
           let leads : opening.LeadsTo (meaning_by of) (outcomes_in given) frame outcome new.segment = here.at (outcomes_in given) stands.segment in
           let on : GoesOn of whose pair given outcome answer new = rest of whose pair given stands leads.stands in
-          let g : Given = gave outcome answer in
+          let g : FrameResult = gave outcome answer in
           record {
             gives = g;
             leads = record {
@@ -105,7 +106,7 @@ module _ (mid : FilterIn) (before : SegmentIn) (frame : Frame) (batch : BatchCon
   old = record mid { segment = before }
 
   -- what holds by the filter's rule holds by the one that it stands for
-  here : (P : Signal → Whose → Pair → Type 0) (of : Signal) (whose : Whose) (pair : Pair) (given : List Given) → StandsFor of whose pair given old
+  here : (P : Signal → Whose → Pair → Type 0) (of : Signal) (whose : Whose) (pair : Pair) (given : List FrameResult) → StandsFor of whose pair given old
       → P mid.segment.signal mid.whose mid.pair → P of whose pair
   here P of whose pair given stands =
       by_rule P mid.segment.signal of mid.whose whose mid.pair pair (opened.opens.same ∙ stands.segment.same) stands.whose stands.pair
@@ -127,7 +128,7 @@ module _ (mid : FilterIn) (before : SegmentIn) (frame : Frame) (batch : BatchCon
     segment_is : new.segment ≡ mid.segment
     segment_is = ap (λ (f : FilterIn). f.segment) same
 
-    module _ (of : Signal) (whose : Whose) (pair : Pair) (given : List Given) (stands : StandsFor of whose pair given old) where
+    module _ (of : Signal) (whose : Whose) (pair : Pair) (given : List FrameResult) (stands : StandsFor of whose pair given old) where
       abbrev sets : List SetIn
       sets = sets_before of whose pair given
 
@@ -155,7 +156,7 @@ module _ (mid : FilterIn) (before : SegmentIn) (frame : Frame) (batch : BatchCon
             (sends.laid (tables_in_all sets) (payloads_in_all messages) sent_before);
       }
 
-      abbrev g : Given
+      abbrev g : FrameResult
       g = gave (Accepted batch made.tables) (Batch batch.id message)
 
       messages_are : messages_sent (given ++ g ∷ []) ≡ messages ++ message ∷ []
@@ -191,11 +192,11 @@ FrameAccepted = (old new : SegmentIn) (frame : Frame) (batch : BatchContent) (ma
     → IsChecked new.signal new.streams batch.payloads made → NextOutcome (meaning_by old.signal) old frame (Accepted batch made.tables) new
 
 module _ (law : FrameAccepted) (mid : FilterIn) (batch : BatchContent) where
-  pub opened_unordered : IsKept mid batch.payloads None → FiltersOpened batch mid mid (Unordered batch.id)
+  pub opened_unordered : IsKeptOfOpened mid batch.payloads None → FiltersOpened batch mid mid (Unordered batch.id)
   opened_unordered kept = λ before frame opened.
       batch_unordered mid before frame batch kept.made opened kept.checked (law before mid.segment frame batch kept.made opened kept.checked) kept.keeps
 
-  pub opened_sent : (set : List Table) → IsKept mid batch.payloads (Some set) → (number : ℤ) → number ≡ batch.id → (new : FilterIn) (answer : Answer)
+  pub opened_sent : (set : List Table) → IsKeptOfOpened mid batch.payloads (Some set) → (number : ℤ) → number ≡ batch.id → (new : FilterIn) (answer : Answer)
       → SendsSet number set mid new answer → FiltersOpened batch mid new answer
   opened_sent set kept number is new answer sends = λ before frame opened.
       subst (λ (a : Answer). Filters (record mid { segment = before }) frame new a)
@@ -204,7 +205,8 @@ module _ (law : FrameAccepted) (mid : FilterIn) (batch : BatchContent) where
       sends.message (subst (λ (n : ℤ). SendsMessage n set mid.sent new.sent sends.message) is sends.sends) sends.same)
 
   -- what was returned for it
-  pub send_opened : (set : List Table) → IsKept mid batch.payloads (Some set) → (number : ℤ) → number ≡ batch.id → (new : FilterIn) (returned : Result Filtered AllocError)
+  pub send_opened : (set : List Table) → IsKeptOfOpened mid batch.payloads (Some set) → (number : ℤ) → number ≡ batch.id
+      → (new : FilterIn) (returned : Result Filtered AllocError)
       → IfOk returned (λ found. SendsSet number set mid new (answer_of found)) → IfOk returned (λ found. FiltersOpened batch mid new (answer_of found))
   send_opened set kept number is new (Ok found) sends = opened_sent set kept number is new (answer_of found) sends
   send_opened set kept number is new (Err error) sends = tt

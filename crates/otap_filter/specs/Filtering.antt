@@ -19,8 +19,8 @@ use Rattle.otap_transit.specs.Arrivals.{SetIn, IsLaidSet, IsMessageOfSet}
 
 -- ---- what a frame gives
 
--- an answer: a batch id and the message of what is kept of the batch; the id of a batch of which what is kept isn't ordered; a
--- refusal; a reset
+-- an answer. `Batch` has the id of a batch and the message of what is kept of it; `Unordered` has the id of a batch of which what is
+-- kept isn't ordered
 pub data Answer : Type 0 where
   Batch : ℤ → List ℕ → Answer
   Unordered : ℤ → Answer
@@ -28,11 +28,11 @@ pub data Answer : Type 0 where
   Reset : Answer
 
 -- WHAT A FRAME GIVES: its outcome for a receiver, and the answer
-pub record Given : Type 0 where
+pub record FrameResult : Type 0 where
   pub outcome : Outcome
   pub answer : Answer
 
-abbrev pub outcomes_in : List Given → List Outcome
+abbrev pub outcomes_in : List FrameResult → List Outcome
 outcomes_in given = map (λ g. g.outcome) given
 
 -- ---- what was sent since the latest reset
@@ -51,7 +51,7 @@ set_if of whose pair outcomes.Reset = []
 unfoldable pub sets_sent : Signal → Whose → Pair → List Outcome → List SetIn
 sets_sent of whose pair before = flat_map (set_if of whose pair) (segment before)
 
-abbrev pub sets_before : Signal → Whose → Pair → List Given → List SetIn
+abbrev pub sets_before : Signal → Whose → Pair → List FrameResult → List SetIn
 sets_before of whose pair given = sets_sent of whose pair (outcomes_in given)
 
 -- THE MESSAGES OF THEM
@@ -61,17 +61,18 @@ message_if (Unordered id) = []
 message_if (Refused refusal) = []
 message_if Reset = []
 
-abbrev pub is_reset : Given → Bool
+abbrev pub is_reset : FrameResult → Bool
 is_reset g = outcomes.is_reset g.outcome
 
-unfoldable pub messages_sent : List Given → List (List ℕ)
+unfoldable pub messages_sent : List FrameResult → List (List ℕ)
 messages_sent given = flat_map (λ g. message_if g.answer) (since is_reset given)
 
 -- ---- what is answered
 
--- A BATCH IS FILTERED after frames that gave these: its tables have cells of their columns' types, what is kept of them is ordered,
--- and the message is that of what is kept, under the batch's id, and laid out, after the sets and the messages since the latest reset
-pub record IsFiltered (of : Signal) (whose : Whose) (pair : Pair) (given : List Given) (batch : BatchContent) (tables : List Table)
+-- A BATCH IS FILTERED after frames that gave these. Its tables have cells of their columns' types, and what is kept of them is
+-- ordered. The message is one of what is kept under the id of the batch, after the sets and the messages since the latest reset; and
+-- it is laid out
+pub record IsFiltered (of : Signal) (whose : Whose) (pair : Pair) (given : List FrameResult) (batch : BatchContent) (tables : List Table)
     (message : List ℕ) : Type 0 where
   pub sound : All IsTable tables
   pub ordered : is_ordered of whose pair tables ≡ true
@@ -79,7 +80,7 @@ pub record IsFiltered (of : Signal) (whose : Whose) (pair : Pair) (given : List 
   pub laid : IsLaidSet (sets_before of whose pair given) (messages_sent given) (kept_set of whose pair batch tables) message
 
 -- THE ANSWER for an outcome after frames that gave these
-abbrev pub Answers : Signal → Whose → Pair → List Given → Outcome → Answer → Type 0
+abbrev pub Answers : Signal → Whose → Pair → List FrameResult → Outcome → Answer → Type 0
 Answers of whose pair given (Accepted batch tables) (Batch id message) = (id ≡ batch.id) × IsFiltered of whose pair given batch tables message
 Answers of whose pair given (Accepted batch tables) (Unordered id) = (id ≡ batch.id) × (is_ordered of whose pair tables ≡ false)
 Answers of whose pair given (outcomes.Refused refusal) (Refused answered) = answered ≡ refusal
@@ -87,10 +88,10 @@ Answers of whose pair given outcomes.Reset Reset = ⊤
 Answers of whose pair given outcome answer = ⊥
 
 -- WHAT A FRAME GIVES after frames that gave these: the outcome that it has for a receiver, and the answer for this outcome
-pub record FiltersAfter (of : Signal) (whose : Whose) (pair : Pair) (given : List Given) (frame : Frame) (gives : Given) : Type 0 where
+pub record FiltersAfter (of : Signal) (whose : Whose) (pair : Pair) (given : List FrameResult) (frame : Frame) (gives : FrameResult) : Type 0 where
   pub received : ReceivedAfter (meaning_by of) (outcomes_in given) frame gives.outcome
   pub answers : Answers of whose pair given gives.outcome gives.answer
 
 -- WHAT THE FRAMES OF A CAPTURE GIVE, one after the other
-abbrev pub AreFiltered : Signal → Whose → Pair → List Frame → List Given → Type 0
+abbrev pub AreFiltered : Signal → Whose → Pair → List Frame → List FrameResult → Type 0
 AreFiltered of whose pair frames given = EachAfter (λ past before frame gives. FiltersAfter of whose pair before frame gives) [] [] frames given

@@ -3,7 +3,6 @@ use Rattle.std.specs.Prelude.{◌≡◌, ⊤, ℕ, true, false, List, [], ◌∷
 use Rattle.otlp_model.specs.declared.request.Signal.{Signal}
 use Rattle.otlp_model.specs.declared.request.Signal.TheVariants.{Metrics}
 use Rattle.otlp_model.specs.declared.value.Pair.{Pair}
-use Rattle.otlp_model.specs.declared.value.Value as values
 use Rattle.otap_capture.specs.Capture.{Frame}
 use Rattle.otap_kept.specs.declared.whose.Whose.{Whose}
 use Rattle.otap_kept.specs.declared.whose.Whose.TheVariants.{Item}
@@ -14,11 +13,7 @@ use Rattle.otap_transit.specs.Arrivals.{tables_in_all}
 use Rattle.otap_transit.specs.Transits.{payloads_in_all}
 use Rattle.otap_filter.specs.declared.filtered.Filtered.{Filtered}
 use Rattle.otap_filter.specs.declared.filtered.Filtered.TheVariants as filtered
-use Rattle.otap_filter.specs.Filtering.{Answer, Batch, FiltersAfter, Given, Refused, Reset, Unordered, messages_sent, outcomes_in, sets_before}
-
--- the pair of a key and a text
-abbrev pub text_under : List ℕ → List ℕ → Pair
-text_under key text = record { key = key; value = values.Str text }
+use Rattle.otap_filter.specs.Filtering.{Answer, Batch, FiltersAfter, FrameResult, Refused, Reset, Unordered, messages_sent, outcomes_in, sets_before}
 
 -- the items of a signal have pairs of their own, or those of their resources are looked at; a metric has none
 abbrev pub HasPairs : Signal → Whose → Type 0
@@ -34,7 +29,7 @@ pub record FilterIn : Type 0 where
 
 -- A FILTER AFTER FRAMES that gave these: it looks for the pair, its segment is the one after their outcomes, it counts the messages
 -- since the latest reset, and, where no frame since then was refused, it sent these messages
-pub record StandsFor (of : Signal) (by : Whose) (sought : Pair) (given : List Given) (f : FilterIn) : Type 0 where
+pub record StandsFor (of : Signal) (by : Whose) (sought : Pair) (given : List FrameResult) (f : FilterIn) : Type 0 where
   pub whose : f.whose ≡ by
   pub pair : f.pair ≡ sought
   pub segment : segments.StandsFor of (outcomes_in given) f.segment
@@ -51,19 +46,20 @@ answer_of (filtered.Refused refusal) = Refused refusal
 answer_of filtered.Reset = Reset
 
 -- the next frame gives this, and the filter is the one after this frame too
-pub record LeadsTo (of : Signal) (whose : Whose) (pair : Pair) (given : List Given) (frame : Frame) (next : Given) (new : FilterIn) : Type 0 where
+pub record LeadsTo (of : Signal) (whose : Whose) (pair : Pair) (given : List FrameResult) (frame : Frame) (next : FrameResult) (new : FilterIn) : Type 0 where
   pub gives : FiltersAfter of whose pair given frame next
   pub stands : StandsFor of whose pair (given ++ next ∷ []) new
 
 -- its answer is the one that is returned
-pub record HasFiltered (of : Signal) (whose : Whose) (pair : Pair) (given : List Given) (frame : Frame) (new : FilterIn) (answer : Answer) : Type 0 where
-  pub gives : Given
+pub record HasFiltered (of : Signal) (whose : Whose) (pair : Pair) (given : List FrameResult) (frame : Frame) (new : FilterIn) (answer : Answer) : Type 0 where
+  pub gives : FrameResult
   pub leads : LeadsTo of whose pair given frame gives new
   pub answers : gives.answer ≡ answer
 
 -- THE NEXT FRAME IS FILTERED, whatever frames came before it, and whatever these gave
 pub record Filters (old : FilterIn) (frame : Frame) (new : FilterIn) (answer : Answer) : Type 0 where
-  pub at : (of : Signal) (whose : Whose) (pair : Pair) (given : List Given) → StandsFor of whose pair given old → HasFiltered of whose pair given frame new answer
+  pub at : (of : Signal) (whose : Whose) (pair : Pair) (given : List FrameResult) → StandsFor of whose pair given old
+      → HasFiltered of whose pair given frame new answer
 
 -- ---- what stays
 

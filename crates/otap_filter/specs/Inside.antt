@@ -29,8 +29,8 @@ pub record KeepsIf (f : FilterIn) (tables : List Table) (found : Option (List Ta
   pub is_kept : IfSome found (λ set. set ≡ kept f.segment.signal f.whose f.pair tables)
   pub unordered : IfNone found (is_ordered f.segment.signal f.whose f.pair tables ≡ false)
 
--- WHAT IS KEPT of the payloads that the segment opened last: nothing is wrong with their tables
-pub record IsKept (f : FilterIn) (payloads : List PayloadIn) (found : Option (List Table)) : Type 0 where
+-- WHAT IS KEPT of the payloads that the segment opened last, which `found` is, where it is ordered. Nothing is wrong with their tables
+pub record IsKeptOfOpened (f : FilterIn) (payloads : List PayloadIn) (found : Option (List Table)) : Type 0 where
   pub made : Checked
   pub checked : IsChecked f.segment.signal f.segment.streams payloads made
   pub keeps : KeepsIf f made.tables found

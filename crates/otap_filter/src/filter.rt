@@ -2,11 +2,12 @@
 
 ghost use Rattle.std.specs.Prelude.{◌≡◌, ◌<◌, [], IfErr, IfOk, IfSome, OnErr};
 ghost use Rattle.otap_capture.specs.Capture.{frame_of};
+ghost use Rattle.otap_kept.specs.Texts.{text_under};
 ghost use Rattle.otap_consume.specs.Opening.{HasLateDefect};
 ghost use Rattle.otap_consume.specs.Segments.{CanShow};
 ghost use Rattle.otap_produce.specs.Limits.{batch_limit};
-ghost use Rattle.otap_filter.specs.Filters.{Filters, HasPairs, HasSameRule, RanOut, StandsFor, answer_of, text_under};
-ghost use Rattle.otap_filter.specs.Inside.{BeginsAnew, CanBeSent, FiltersOpened, IsKept, SendsSet};
+ghost use Rattle.otap_filter.specs.Filters.{Filters, HasPairs, HasSameRule, RanOut, StandsFor, answer_of};
+ghost use Rattle.otap_filter.specs.Inside.{BeginsAnew, CanBeSent, FiltersOpened, IsKeptOfOpened, SendsSet};
 
 use crate::filtered::Filtered;
 use otap_capture::{Batch, Frame};
@@ -37,7 +38,8 @@ pub struct Filter {
 
 impl Model for Filter {
     ghost use Rattle.std.specs.Prelude.{string_bytes};
-    ghost use Rattle.otap_filter.specs.Filters.{FilterIn, text_under};
+    ghost use Rattle.otap_kept.specs.Texts.{text_under};
+    ghost use Rattle.otap_filter.specs.Filters.{FilterIn};
     ghost use Rattle.otap_filter.specs.Inside.{IsFilter};
 
     ghost Value = { FilterIn };
@@ -155,7 +157,7 @@ impl Filter {
     /// What is kept of the batch that the segment opened last; `None` where it isn't ordered.
     fn kept(&self, batch: &Batch<'_>) -> Result<Option<TableSet<LogicalTable>>, NotTaken>
         requires { CanShow self.now.segment.streams batch.now.payloads }
-        ensures keeps { IfOk result (IsKept self.now batch.now.payloads) }
+        ensures keeps { IfOk result (IsKeptOfOpened self.now batch.now.payloads) }
         ensures fit { IfOk result (λ found. IfSome found (CanBeSent self.now)) }
         ensures stops { IfErr result (HasLateDefect self.now.segment.signal self.now.segment.streams batch.now.payloads) }
     {

@@ -8,7 +8,7 @@ ghost use Rattle.otap_capture.specs.Capture.{Frame};
 ghost use Rattle.otap_consume.specs.Bytes.{IsOfBytes};
 ghost use Rattle.otap_consume.specs.Outcomes.{Outcome};
 ghost use Rattle.otap_kept.specs.declared.whose.Whose.{Whose};
-ghost use Rattle.otap_filter.specs.Filtering.{Answer, Answers, AreFiltered, Batch, Given, Unordered};
+ghost use Rattle.otap_filter.specs.Filtering.{Answer, Answers, AreFiltered, Batch, FrameResult, Unordered};
 ghost use Rattle.otap_filter.specs.Runs.{AreAlike, AreMessagesOf, HasArrived, HasOutcome};
 
 use otap_consume::receiving_laws::received_some_outcome;
@@ -22,7 +22,7 @@ use otap_transit::laws::{fit_tables_arrive, layouts_of_sets_are_read, profile_ta
 /// The messages since the latest reset are those of what was kept of the batches since then, where it is ordered: one for each,
 /// after those before it. What was kept is fit to be sent, so each set arrives; and each message is laid out.
 pub fn messages_are_of_what_is_kept()
-    ensures { (of : Signal) (whose : Whose) (pair : Pair) (frames : List Frame) (given : List Given)
+    ensures { (of : Signal) (whose : Whose) (pair : Pair) (frames : List Frame) (given : List FrameResult)
         → AreFiltered of whose pair frames given → length given < 2 ^ 64 → AreMessagesOf of whose pair given }
 {
     what_is_kept_can_be_written();
@@ -38,7 +38,7 @@ pub fn messages_are_of_what_is_kept()
 /// Each message is in the format after those since the latest reset. It has the id of its batch, what is read of it is the filter of
 /// the telemetry of the batch, and the rows that were kept weigh no more than those of the batch.
 pub fn filters_of_batches_arrive()
-    ensures { (of : Signal) (whose : Whose) (pair : Pair) (frames : List Frame) (given : List Given)
+    ensures { (of : Signal) (whose : Whose) (pair : Pair) (frames : List Frame) (given : List FrameResult)
         → AreFiltered of whose pair frames given → length given < 2 ^ 64 → AllAfter (HasArrived of whose pair) [] given }
 {
     what_is_kept_can_be_written();
@@ -54,7 +54,7 @@ pub fn filters_of_batches_arrive()
 /// Each frame has an outcome after frames that gave something, and an answer, where no message is the answer. Messages are lists of
 /// bytes, numbers below 256.
 pub fn each_frame_has_an_outcome()
-    ensures { (of : Signal) (whose : Whose) (pair : Pair) (frames : List Frame) (given : List Given) (frame : Frame)
+    ensures { (of : Signal) (whose : Whose) (pair : Pair) (frames : List Frame) (given : List FrameResult) (frame : Frame)
         → All IsOfBytes frames → IsOfBytes frame → AreFiltered of whose pair frames given → HasOutcome of whose pair given frame }
 {
     received_some_outcome();
@@ -63,8 +63,8 @@ pub fn each_frame_has_an_outcome()
 /// An outcome after frames that gave something has one kind of answer: a batch that is answered by a message isn't one of which what
 /// is kept isn't ordered, and two answers have the same id or the same refusal. So only the bytes of a message are free.
 pub fn one_kind_of_answer()
-    ensures kind { (of : Signal) (whose : Whose) (pair : Pair) (given : List Given) (outcome : Outcome) (id other : ℤ) (message : List ℕ)
+    ensures kind { (of : Signal) (whose : Whose) (pair : Pair) (given : List FrameResult) (outcome : Outcome) (id other : ℤ) (message : List ℕ)
         → Answers of whose pair given outcome (Batch id message) → Answers of whose pair given outcome (Unordered other) → ⊥ }
-    ensures alike { (of : Signal) (whose : Whose) (pair : Pair) (given : List Given) (outcome : Outcome) (a b : Answer)
+    ensures alike { (of : Signal) (whose : Whose) (pair : Pair) (given : List FrameResult) (outcome : Outcome) (a b : Answer)
         → Answers of whose pair given outcome a → Answers of whose pair given outcome b → AreAlike a b }
 {}

@@ -17,8 +17,8 @@ use Rattle.otap_consume.specs.LateStages.{IsDefectOfRows}
 use Rattle.otap_consume.specs.Outcomes.{Outcome, Outcomes, OutcomeAfter, stage_of}
 use Rattle.otap_consume.specs.Receiving.{ReceivedAfter, Received, Settles}
 use Rattle.otlp_model.specs.declared.request.Signal.{Signal}
-use Rattle.otap_filter.specs.Filtering.{AreFiltered, FiltersAfter, Given}
-use Rattle.otap_filter.specs.Filters.{text_under}
+use Rattle.otap_kept.specs.Texts.{text_under}
+use Rattle.otap_filter.specs.Filtering.{AreFiltered, FiltersAfter, FrameResult}
 use Rattle.otap_gateway.specs.declared.jobs.command.Command.TheVariants as command
 use Rattle.otap_gateway.specs.declared.jobs.owner.Owner.{Owner}
 use Rattle.otap_gateway.specs.Filtering.{filtered_text}
@@ -177,7 +177,7 @@ unfolding ReplyOf
 encode_back signal = gives_back (Encodes (rows_by signal) (meaning_by signal)) encoded
 
 pub filter_back : (owner : Owner) (key text : List ℕ) (frames : List Frame) (replies : List ReplyText) → EachAfter (ReplyOf (command.Filter owner key text)) [] [] frames replies
-    → (given : List Given) × AreFiltered (signal_of owner) (whose_of owner) (text_under key text) frames given × (replies ≡ replies_from filtered_text 0 given)
+    → (given : List FrameResult) × AreFiltered (signal_of owner) (whose_of owner) (text_under key text) frames given × (replies ≡ replies_from filtered_text 0 given)
 unfolding ReplyOf
 filter_back owner key text = gives_back (FiltersAfter (signal_of owner) (whose_of owner) (text_under key text)) filtered_text
 

@@ -29,7 +29,7 @@ use Rattle.otap_transit.specs.Transits.{payloads_in_all}
 use Rattle.otap_transit.proofs.Accepting.{same_weight}
 use Rattle.otap_transit.proofs.FitTables.{all_ids}
 use Rattle.otap_transit.proofs.Settled.{gives_accepted, gives_reset, only_accepted, only_reset}
-use Rattle.otap_filter.specs.Filtering.{Answer, AreFiltered, Batch, FiltersAfter, Given, Refused, Reset, Unordered, messages_sent, outcomes_in}
+use Rattle.otap_filter.specs.Filtering.{Answer, AreFiltered, Batch, FiltersAfter, FrameResult, Refused, Reset, Unordered, messages_sent, outcomes_in}
 use Rattle.otap_filter.specs.Runs.{FilterArrives, HasArrived, tables_read}
 use Rattle.otap_filter.proofs.FitSets.{HaveBeenAccepted, KeptLaws, have_been}
 use Rattle.otap_filter.proofs.SentGrown.{gave, messages_batch, messages_refused, messages_reset, messages_unordered}
@@ -39,7 +39,7 @@ use Rattle.otap_gateway.specs.FilteredBack.{AllArrive, ArrivesAs, ArrivesFiltere
 -- ---- what the far end has so far
 
 -- no frame of its segment was refused, and the payloads are those that were sent
-pub record AreReturned (given : List Given) (returned : List Outcome) : Type 0 where
+pub record AreReturned (given : List FrameResult) (returned : List Outcome) : Type 0 where
   pub whole : is_broken returned ≡ false
   pub payloads : payloads_after returned ≡ payloads_in_all (messages_sent given)
 
@@ -47,14 +47,16 @@ none_returned : AreReturned [] []
 unfolding is_broken payloads_after messages_sent
 none_returned = record { whole = refl; payloads = refl }
 
-after_none : (given : List Given) (returned : List Outcome) (g : Given) → messages_sent (given ++ g ∷ []) ≡ messages_sent given → AreReturned given returned
+after_none : (given : List FrameResult) (returned : List Outcome) (g : FrameResult) → messages_sent (given ++ g ∷ []) ≡ messages_sent given
+    → AreReturned given returned
     → AreReturned (given ++ g ∷ []) returned
 after_none given returned g same so_far = record { whole = so_far.whole; payloads = so_far.payloads ∙ ap payloads_in_all (sym same) }
 
-after_reset : (given : List Given) (returned : List Outcome) → AreReturned (given ++ gave outcomes.Reset Reset ∷ []) (returned ++ outcomes.Reset ∷ [])
+after_reset : (given : List FrameResult) (returned : List Outcome) → AreReturned (given ++ gave outcomes.Reset Reset ∷ []) (returned ++ outcomes.Reset ∷ [])
 after_reset given returned = record { whole = broken_reset returned; payloads = payloads_reset returned ∙ ap payloads_in_all (sym (messages_reset given)) }
 
-after_batch : (given : List Given) (returned : List Outcome) (batch : BatchContent) (tables read : List Table) (id : ℤ) (message : List ℕ) → AreReturned given returned
+after_batch : (given : List FrameResult) (returned : List Outcome) (batch : BatchContent) (tables read : List Table) (id : ℤ) (message : List ℕ)
+    → AreReturned given returned
     → AreReturned (given ++ gave (Accepted batch tables) (Batch id message) ∷ []) (returned ++ Accepted (batch_content message) read ∷ [])
 after_batch given returned batch tables read id message so_far =
     let sent : payloads_in_all (messages_sent given ++ message ∷ []) ≡ payloads_in_all (messages_sent given) ++ payloads_in message
@@ -71,7 +73,7 @@ module _ (laws : KeptLaws) (alike : RequestsReadAlike) (of : Signal) (whose : Wh
   m = meaning_by of
 
   -- what frames give, and what the far end gives of frames that it reads
-  abbrev Filter : List Frame → List Given → List Frame → List Given → Type 0
+  abbrev Filter : List Frame → List FrameResult → List Frame → List FrameResult → Type 0
   Filter past before frames given = EachAfter (λ past before frame gives. FiltersAfter of whose pair before frame gives) past before frames given
 
   abbrev Receive : List Frame → List Outcome → List Frame → List Outcome → Type 0
@@ -79,7 +81,7 @@ module _ (laws : KeptLaws) (alike : RequestsReadAlike) (of : Signal) (whose : Wh
 
   -- ---- one batch
 
-  module _ (given : List Given) (frame : Frame) (batch : BatchContent) (tables : List Table) (id : ℤ) (message : List ℕ)
+  module _ (given : List FrameResult) (frame : Frame) (batch : BatchContent) (tables : List Table) (id : ℤ) (message : List ℕ)
       (filters : FiltersAfter of whose pair given frame (gave (Accepted batch tables) (Batch id message))) (f : FilterArrives of whose pair given batch tables message) where
     abbrev read : List Table
     read = tables_read of given message
@@ -118,9 +120,9 @@ module _ (laws : KeptLaws) (alike : RequestsReadAlike) (of : Signal) (whose : Wh
 
   -- ---- in all outcomes
 
-  module _ (given rest : List Given) (frame : Frame) where
+  module _ (given rest : List FrameResult) (frame : Frame) where
     -- all that comes later arrives, after what was given and returned
-    abbrev ArriveLater : Given → Type 0
+    abbrev ArriveLater : FrameResult → Type 0
     ArriveLater g =
         (far : List Frame) (returned next : List Outcome) → AreReturned (given ++ g ∷ []) returned → Receive far returned (frames_passed rest) next
         → AllZip (ArrivesAs of whose pair) (passed rest) next
@@ -154,7 +156,8 @@ module _ (laws : KeptLaws) (alike : RequestsReadAlike) (of : Signal) (whose : Wh
               (subst (λ (o : Outcome). AreReturned (given ++ gave outcomes.Reset Reset ∷ []) (returned ++ o ∷ [])) (sym is) (after_reset given returned)) received.1,
         )
 
-  arrive_from : (past : List Frame) (before : List Given) (frames : List Frame) (given : List Given) → Filter past before frames given → AllAfter (HasArrived of whose pair) before given
+  arrive_from : (past : List Frame) (before : List FrameResult) (frames : List Frame) (given : List FrameResult) → Filter past before frames given
+      → AllAfter (HasArrived of whose pair) before given
       → (far : List Frame) (returned next : List Outcome) → AreReturned before returned → Receive far returned (frames_passed given) next → AllZip (ArrivesAs of whose pair) (passed given) next
   arrive_from past before [] [] each arrived far returned [] so_far received = tt
   arrive_from past before [] [] each arrived far returned (o ∷ next) so_far received = absurd received
@@ -169,8 +172,8 @@ module _ (laws : KeptLaws) (alike : RequestsReadAlike) (of : Signal) (whose : Wh
   abbrev Some : List Frame → List Outcome → List Frame → Type 0
   Some far returned frames = (next : List Outcome) × Receive far returned frames next
 
-  module _ (given rest : List Given) (frame : Frame) where
-    abbrev SomeLater : Given → Type 0
+  module _ (given rest : List FrameResult) (frame : Frame) where
+    abbrev SomeLater : FrameResult → Type 0
     SomeLater g = (far : List Frame) (returned : List Outcome) → AreReturned (given ++ g ∷ []) returned → Some far returned (frames_passed rest)
 
     one_more : (outcome : Outcome) (answer : Answer) → FiltersAfter of whose pair given frame (gave outcome answer) → HasArrived of whose pair given (gave outcome answer)
@@ -196,7 +199,8 @@ module _ (laws : KeptLaws) (alike : RequestsReadAlike) (of : Signal) (whose : Wh
         let next = later (far ++ capture.Reset ∷ []) (returned ++ outcomes.Reset ∷ []) (after_reset given returned) in
         (outcomes.Reset ∷ next.0, (gives_reset m returned so_far.whole, next.1))
 
-  some_from : (past : List Frame) (before : List Given) (frames : List Frame) (given : List Given) → Filter past before frames given → AllAfter (HasArrived of whose pair) before given
+  some_from : (past : List Frame) (before : List FrameResult) (frames : List Frame) (given : List FrameResult) → Filter past before frames given
+      → AllAfter (HasArrived of whose pair) before given
       → (far : List Frame) (returned : List Outcome) → AreReturned before returned → Some far returned (frames_passed given)
   some_from past before [] [] each arrived far returned so_far = ([], tt)
   some_from past before [] (g ∷ given) each arrived far returned so_far = absurd each
@@ -205,7 +209,8 @@ module _ (laws : KeptLaws) (alike : RequestsReadAlike) (of : Signal) (whose : Wh
       one_more before given frame g.outcome g.answer each.0 arrived.0
       (λ far returned so_far. some_from (past ++ frame ∷ []) (before ++ g ∷ []) frames given each.1 arrived.1 far returned so_far) far returned so_far
 
-  pub all_arrive : (frames : List Frame) (given : List Given) → AreFiltered of whose pair frames given → AllAfter (HasArrived of whose pair) [] given → AllArrive of whose pair given
+  pub all_arrive : (frames : List Frame) (given : List FrameResult) → AreFiltered of whose pair frames given → AllAfter (HasArrived of whose pair) [] given
+      → AllArrive of whose pair given
   all_arrive frames given each arrived =
       let some = some_from [] [] frames given each arrived [] [] none_returned in
       record { received = some.0; some = some.1; all = λ received are. arrive_from [] [] frames given each arrived [] [] received none_returned are }

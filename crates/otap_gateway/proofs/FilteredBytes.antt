@@ -17,7 +17,7 @@ use Rattle.otap_kept.specs.declared.whose.Whose.{Whose}
 use Rattle.otap_consume.specs.Outcomes.{Outcome, Accepted}
 use Rattle.otap_consume.specs.Outcomes as outcomes
 use Rattle.otap_consume.specs.Receiving.{Received, ReceivedAfter}
-use Rattle.otap_filter.specs.Filtering.{Answer, Answers, AreFiltered, Batch, FiltersAfter, Given, Refused, Reset, Unordered, outcomes_in}
+use Rattle.otap_filter.specs.Filtering.{Answer, Answers, AreFiltered, Batch, FiltersAfter, FrameResult, Refused, Reset, Unordered, outcomes_in}
 use Rattle.otap_gateway.specs.Filtering.{answer_text, filtered_text}
 use Rattle.otap_gateway.specs.FilteredBack.{AllArrive, IsReadFiltered, Kept, Passed, frame_passed, frames_passed, passed, passed_by}
 use Rattle.otap_gateway.specs.FilteredBack as back
@@ -31,12 +31,12 @@ spelled (Kept batch tables message) = message_frame message
 spelled back.Reset = reset_frame
 
 module _ (of : Signal) (whose : Whose) (pair : Pair) where
-  abbrev Filter : List Frame → List Given → List Frame → List Given → Type 0
+  abbrev Filter : List Frame → List FrameResult → List Frame → List FrameResult → Type 0
   Filter past before frames given = EachAfter (λ past before frame gives. FiltersAfter of whose pair before frame gives) past before frames given
 
   -- ---- on out there is nothing else
 
-  out_one : (given : List Given) (outcome : Outcome) (answer : Answer) (number : ℕ) → Answers of whose pair given outcome answer
+  out_one : (given : List FrameResult) (outcome : Outcome) (answer : Answer) (number : ℕ) → Answers of whose pair given outcome answer
       → (answer_text number answer).out ≡ flat_map spelled (passed_by outcome answer)
   out_one given (Accepted batch tables) (Batch id message) number is = sym (append-nil (message_frame message))
   out_one given (Accepted batch tables) (Unordered id) number is = refl
@@ -51,7 +51,7 @@ module _ (of : Signal) (whose : Whose) (pair : Pair) where
   out_one given outcomes.Reset (Refused answered) number is = absurd is
   out_one given outcomes.Reset Reset number is = refl
 
-  out_replies : (number : ℕ) (past : List Frame) (before : List Given) (frames : List Frame) (given : List Given) → Filter past before frames given
+  out_replies : (number : ℕ) (past : List Frame) (before : List FrameResult) (frames : List Frame) (given : List FrameResult) → Filter past before frames given
       → out_text (replies_from filtered_text number given) ≡ flat_map spelled (passed given)
   out_replies number past before [] [] each = refl
   out_replies number past before [] (g ∷ given) each = absurd each
@@ -63,7 +63,8 @@ module _ (of : Signal) (whose : Whose) (pair : Pair) where
   -- ---- and it is frames
 
   module _ (messages : MessagesAreRead) (resets : IsFrame reset_frame capture.Reset) where
-    one_frame : (given : List Given) (outcome : Outcome) (answer : Answer) → Answers of whose pair given outcome answer → AreSpelled spelled frame_passed (passed_by outcome answer)
+    one_frame : (given : List FrameResult) (outcome : Outcome) (answer : Answer) → Answers of whose pair given outcome answer
+        → AreSpelled spelled frame_passed (passed_by outcome answer)
     one_frame given (Accepted batch tables) (Batch id message) is = (messages message is.1.message_of.short, tt)
     one_frame given (Accepted batch tables) (Unordered id) is = tt
     one_frame given (Accepted batch tables) (Refused answered) is = tt
@@ -74,7 +75,8 @@ module _ (of : Signal) (whose : Whose) (pair : Pair) where
     one_frame given outcomes.Reset (Refused answered) is = tt
     one_frame given outcomes.Reset Reset is = (resets, tt)
 
-    all_frames : (past : List Frame) (before : List Given) (frames : List Frame) (given : List Given) → Filter past before frames given → AreSpelled spelled frame_passed (passed given)
+    all_frames : (past : List Frame) (before : List FrameResult) (frames : List Frame) (given : List FrameResult) → Filter past before frames given
+        → AreSpelled spelled frame_passed (passed given)
     all_frames past before [] [] each = tt
     all_frames past before [] (g ∷ given) each = absurd each
     all_frames past before (frame ∷ frames) [] each = absurd each
@@ -84,7 +86,8 @@ module _ (of : Signal) (whose : Whose) (pair : Pair) where
 
     -- ---- what is read
 
-    pub read_filtered : (frames : List Frame) (replies : List ReplyText) (given : List Given) → AreFiltered of whose pair frames given → replies ≡ replies_from filtered_text 0 given
+    pub read_filtered : (frames : List Frame) (replies : List ReplyText) (given : List FrameResult) → AreFiltered of whose pair frames given
+        → replies ≡ replies_from filtered_text 0 given
         → AllArrive of whose pair given → IsReadFiltered of whose pair frames replies
     read_filtered frames replies given each texts arrive =
         let out : flat_map spelled (passed given) ≡ out_text replies = sym (ap out_text texts ∙ out_replies 0 [] [] frames given each) in
@@ -98,7 +101,7 @@ module _ (of : Signal) (whose : Whose) (pair : Pair) where
         }
 
   -- what frames give has the outcomes that they have for a receiver
-  received_from : (past : List Frame) (before : List Given) (frames : List Frame) (given : List Given) → Filter past before frames given
+  received_from : (past : List Frame) (before : List FrameResult) (frames : List Frame) (given : List FrameResult) → Filter past before frames given
       → EachAfter (λ past before frame outcome. ReceivedAfter (meaning_by of) before frame outcome) past (outcomes_in before) frames (outcomes_in given)
   received_from past before [] [] each = tt
   received_from past before [] (g ∷ given) each = absurd each
@@ -106,14 +109,15 @@ module _ (of : Signal) (whose : Whose) (pair : Pair) where
   received_from past before (frame ∷ frames) (g ∷ given) each = (
     each.0.received,
     subst (λ (os : List Outcome). EachAfter (λ past before frame outcome. ReceivedAfter (meaning_by of) before frame outcome) (past ++ frame ∷ []) os frames (outcomes_in given))
-        (map-append (λ (g : Given). g.outcome) before (g ∷ [])) (received_from (past ++ frame ∷ []) (before ++ g ∷ []) frames given each.1),
+        (map-append (λ (g : FrameResult). g.outcome) before (g ∷ [])) (received_from (past ++ frame ∷ []) (before ++ g ∷ []) frames given each.1),
   )
 
-  pub received : (frames : List Frame) (given : List Given) → AreFiltered of whose pair frames given → Received (meaning_by of) frames (outcomes_in given)
+  pub received : (frames : List Frame) (given : List FrameResult) → AreFiltered of whose pair frames given → Received (meaning_by of) frames (outcomes_in given)
   received frames given each = received_from [] [] frames given each
 
   -- a capture has few enough frames
-  pub few_given : (bytes : List ℕ) (frames : List Frame) (end : Option Damage) (given : List Given) → IsCapture bytes frames end → AreFiltered of whose pair frames given → length given < 2 ^ 64
+  pub few_given : (bytes : List ℕ) (frames : List Frame) (end : Option Damage) (given : List FrameResult) → IsCapture bytes frames end
+      → AreFiltered of whose pair frames given → length given < 2 ^ 64
   few_given bytes frames end given is each =
       let few : 0 + length frames ≤ capture_limit = few_frames 0 is.front frames (omega arith) is.each in
       let long : length frames ≡ length given = each_after-length (λ past before frame gives. FiltersAfter of whose pair before frame gives) [] [] frames given each in

@@ -8,9 +8,10 @@ use Rattle.otap_capture.specs.Capture.{Frame, capture_limit}
 use Rattle.otap_consume.specs.Outcomes.{Outcome}
 use Rattle.otap_consume.specs.Outcomes as outcomes
 use Rattle.otap_kept.specs.declared.whose.Whose.{Whose}
+use Rattle.otap_kept.specs.Texts.{text_under}
 use Rattle.otap_produce.specs.Limits.{batch_limit}
-use Rattle.otap_filter.specs.Filtering.{Answer, Answers, Batch, FiltersAfter, Given, Refused, Reset, Unordered, is_reset, message_if, messages_sent}
-use Rattle.otap_filter.specs.Filters.{FilterIn, Filters, HasFiltered, HasPairs, StandsFor, text_under}
+use Rattle.otap_filter.specs.Filtering.{Answer, Answers, Batch, FiltersAfter, FrameResult, Refused, Reset, Unordered, is_reset, message_if, messages_sent}
+use Rattle.otap_filter.specs.Filters.{FilterIn, Filters, HasFiltered, HasPairs, StandsFor}
 use Rattle.otlp_model.specs.declared.request.Signal.{Signal}
 use Rattle.otap_gateway.specs.declared.jobs.owner.Owner.{Owner}
 use Rattle.otap_gateway.specs.declared.jobs.owner.Owner.TheVariants as owners
@@ -41,12 +42,12 @@ one_message (Unordered id) = omega arith
 one_message (Refused refusal) = omega arith
 one_message Reset = omega arith
 
-messages_short : (given : List Given) → length (flat_map (λ g. message_if g.answer) given) ≤ length given
+messages_short : (given : List FrameResult) → length (flat_map (λ g. message_if g.answer) given) ≤ length given
 messages_short [] = omega arith
 messages_short (g ∷ given) =
     omega (arith, one_message g.answer, messages_short given, length-append (message_if g.answer) (flat_map (λ g. message_if g.answer) given))
 
-few_messages : (given : List Given) → length (messages_sent given) ≤ length given
+few_messages : (given : List FrameResult) → length (messages_sent given) ≤ length given
 unfolding messages_sent
 few_messages given = omega (arith, messages_short (since is_reset given), since_short is_reset given)
 
@@ -59,13 +60,14 @@ module _ (owner : Owner) where
 
   pub few_batches : (f : FilterIn) (number : ℕ) → HasHistory (HasFilteredSo owner f) number → number < capture_limit → f.batches < batch_limit
   few_batches f number h few =
-      let given : List Given = h.stood.outcomes in
+      let given : List FrameResult = h.stood.outcomes in
       let long : length h.frames ≡ length given = each_after-length (λ past before frame g. FiltersAfter of whose (pair_sought f) before frame g) [] [] h.frames given h.stood.before in
       omega (arith, long, few_messages given, h.stood.stood.batches, h.count, few)
 
   -- ---- a message that is answered fits into a frame
 
-  short_answer : (pair : Pair) (given : List Given) (outcome : Outcome) (answer : Answer) → Answers of whose pair given outcome answer → HasShortMessage answer
+  short_answer : (pair : Pair) (given : List FrameResult) (outcome : Outcome) (answer : Answer) → Answers of whose pair given outcome answer
+      → HasShortMessage answer
   short_answer pair given (outcomes.Accepted batch tables) (Batch id message) answers = answers.1.message_of.short
   short_answer pair given (outcomes.Refused refusal) (Batch id message) answers = absurd answers
   short_answer pair given outcomes.Reset (Batch id message) answers = absurd answers
@@ -88,7 +90,7 @@ module _ (owner : Owner) where
       pair : Pair
       pair = pair_sought old
 
-      step : (past : List Frame) (given : List Given) → Gave (FiltersAfter of whose pair) past given → StandsFor of whose pair given old
+      step : (past : List Frame) (given : List FrameResult) → Gave (FiltersAfter of whose pair) past given → StandsFor of whose pair given old
           → HasMore (FiltersAfter of whose pair) filtered_text (λ given. StandsFor of whose pair given new) given frame number reply
       step past given before stands =
           let f : HasFiltered of whose pair given frame new answer = filters.at of whose pair given stands in

@@ -1,10 +1,10 @@
 -- The jobs: their words, and what each may reply to a frame.
 use Rattle.std.specs.Prelude.{◌≢◌, ℕ, List, [], ◌∷◌, length, codes}
 use Rattle.otap_capture.specs.Capture.{Frame}
+use Rattle.otap_kept.specs.Texts.{text_under}
 use Rattle.otap_consume.specs.Outcomes.{OutcomeAfter}
 use Rattle.otap_consume.specs.Receiving.{ReceivedAfter}
 use Rattle.otap_filter.specs.Filtering.{FiltersAfter}
-use Rattle.otap_filter.specs.Filters.{text_under}
 use Rattle.otlp_model.specs.declared.request.Signal.{Signal}
 use Rattle.otlp_model.specs.declared.request.Signal.TheVariants as signals
 use Rattle.otap_gateway.specs.declared.jobs.command.Command.{Command}

@@ -17,7 +17,7 @@ use Rattle.otap_kept.specs.Filtered.{filtered}
 use Rattle.otap_consume.specs.Outcomes.{Outcome, Accepted}
 use Rattle.otap_consume.specs.Outcomes as outcomes
 use Rattle.otap_consume.specs.Receiving.{Received}
-use Rattle.otap_filter.specs.Filtering.{Answer, AreFiltered, Batch, Given, outcomes_in}
+use Rattle.otap_filter.specs.Filtering.{Answer, AreFiltered, Batch, FrameResult, outcomes_in}
 use Rattle.otap_filter.specs.Filtering as answers
 use Rattle.otap_gateway.specs.Filtering.{filtered_text}
 use Rattle.otap_gateway.specs.Reply.{ReplyText, out_text}
@@ -25,7 +25,7 @@ use Rattle.otap_gateway.specs.Replies.{replies_from}
 
 -- THE REPLIES HAVE OUTCOMES: they are the texts of what these frames gave, whose outcomes are those of a receiver
 pub record HaveOutcomes (of : Signal) (whose : Whose) (pair : Pair) (frames : List Frame) (replies : List ReplyText) : Type 0 where
-  pub given : List Given
+  pub given : List FrameResult
   pub gave : AreFiltered of whose pair frames given
   pub texts : replies ≡ replies_from filtered_text 0 given
   pub received : Received (meaning_by of) frames (outcomes_in given)
@@ -47,10 +47,10 @@ passed_by (Accepted batch tables) (Batch id message) = Kept batch tables message
 passed_by outcomes.Reset answers.Reset = Reset ∷ []
 passed_by outcome answer = []
 
-abbrev pub passed : List Given → List Passed
+abbrev pub passed : List FrameResult → List Passed
 passed given = flat_map (λ g. passed_by g.outcome g.answer) given
 
-abbrev pub frames_passed : List Given → List Frame
+abbrev pub frames_passed : List FrameResult → List Frame
 frames_passed given = map frame_passed (passed given)
 
 -- ---- what arrives
@@ -71,7 +71,7 @@ ArrivesAs of whose pair (Kept batch tables message) outcome = ArrivesFiltered of
 ArrivesAs of whose pair Reset outcome = outcome ≡ outcomes.Reset
 
 -- ALL THAT IS PUT ON OUT ARRIVES: its frames have outcomes for a receiver, and in all that they have each batch arrives filtered
-pub record AllArrive (of : Signal) (whose : Whose) (pair : Pair) (given : List Given) : Type 0 where
+pub record AllArrive (of : Signal) (whose : Whose) (pair : Pair) (given : List FrameResult) : Type 0 where
   pub received : List Outcome
   pub some : Received (meaning_by of) (frames_passed given) received
   pub all : (received : List Outcome) → Received (meaning_by of) (frames_passed given) received → AllZip (ArrivesAs of whose pair) (passed given) received
@@ -79,7 +79,7 @@ pub record AllArrive (of : Signal) (whose : Whose) (pair : Pair) (given : List G
 -- WHAT `filter` WRITES IS READ: the replies are the texts of what these frames gave, and all that was put on out arrives. The bytes
 -- on out, read as one capture, are its frames, and end well; each frame of a capture begins below its limit.
 pub record IsReadFiltered (of : Signal) (whose : Whose) (pair : Pair) (frames : List Frame) (replies : List ReplyText) : Type 0 where
-  pub given : List Given
+  pub given : List FrameResult
   pub gave : AreFiltered of whose pair frames given
   pub texts : replies ≡ replies_from filtered_text 0 given
   pub arrive : AllArrive of whose pair given

@@ -2,7 +2,7 @@
 use Rattle.std.specs.Prelude.{ℕ, ℤ, List, ◌++◌, codes}
 use Rattle.std.specs.Fmt.{signed_decimal}
 use Rattle.otap_capture.specs.Capture.{message_frame, reset_frame}
-use Rattle.otap_filter.specs.Filtering.{Answer, Batch, Given, Refused, Reset, Unordered}
+use Rattle.otap_filter.specs.Filtering.{Answer, Batch, FrameResult, Refused, Reset, Unordered}
 use Rattle.otap_gateway.specs.Lines.{batch_head, line_feed, printed, refuses}
 use Rattle.otap_gateway.specs.Receptions.{refusal_line}
 use Rattle.otap_gateway.specs.Reply.{ReplyText}
@@ -19,5 +19,5 @@ answer_text number (Refused refusal) = refuses (refusal_line number refusal)
 answer_text number Reset = printed reset_frame
 
 -- that of what a frame gives
-abbrev pub filtered_text : ℕ → Given → ReplyText
+abbrev pub filtered_text : ℕ → FrameResult → ReplyText
 filtered_text number given = answer_text number given.answer

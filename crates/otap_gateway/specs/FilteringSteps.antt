@@ -4,8 +4,9 @@ use Rattle.otlp_model.specs.declared.value.Pair.{Pair}
 use Rattle.otlp_model.specs.declared.value.Value.{Value}
 use Rattle.otlp_model.specs.declared.value.Value as values
 use Rattle.otap_capture.specs.Capture.{longest_frame}
+use Rattle.otap_kept.specs.Texts.{text_under}
 use Rattle.otap_filter.specs.Filtering.{Answer, Batch, FiltersAfter, Refused, Reset, Unordered}
-use Rattle.otap_filter.specs.Filters.{FilterIn, StandsFor, text_under}
+use Rattle.otap_filter.specs.Filters.{FilterIn, StandsFor}
 use Rattle.otap_gateway.specs.declared.jobs.owner.Owner.{Owner}
 use Rattle.otap_gateway.specs.Filtering.{filtered_text}
 use Rattle.otap_gateway.specs.Jobs.{History}

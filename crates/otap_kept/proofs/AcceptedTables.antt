@@ -26,7 +26,7 @@ use Rattle.otap_checks.specs.IdDefects.{Duplicate, DuplicateOf}
 use Rattle.otap_checks.specs.Links.{links_of}
 use Rattle.otap_checks.specs.Reading.{main_rows_in, part_rows_in}
 use Rattle.otap_checks.proofs.TableIds.{clean_given, has_them}
-use Rattle.otap_kept.specs.Accepted.{AreAccepted}
+use Rattle.otap_kept.specs.Clean.{AreCleanAndLight}
 use Rattle.otap_kept.specs.Rows.{former_ids, own_ids, parts_under}
 use Rattle.otap_kept.proofs.NewNumbers.{AreApart}
 use Rattle.otap_kept.proofs.Once.{apart_once, child_id, once_from, parts_apart, times_filter}
@@ -73,7 +73,7 @@ child_again ids parents rows long =
     child_at ids parents rows (range_with_len 0 (length rows))
     ∙ sym (fill_by_all (λ k. get_or ids k None) ids (length rows) None long (λ k within. refl))
 
-module _ (of : Signal) (tables : List Table) (accepted : AreAccepted of tables) where
+module _ (of : Signal) (tables : List Table) (accepted : AreCleanAndLight of tables) where
   pub few_rows : (kind : Kind) → length (table_named kind tables).rows ≤ 2 ^ 21
   few_rows kind = omega (arith, rows_weigh (table_named kind tables).rows, table_lighter kind tables, accepted.light)
 

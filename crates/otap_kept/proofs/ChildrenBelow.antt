@@ -9,7 +9,7 @@ use Rattle.otap_groups.specs.Children.{child_of_row, children}
 use Rattle.otap_groups.specs.Flat.{PlacedIn, part_rows}
 use Rattle.otap_attrs.specs.Sorting.{placed_by, sorted_by}
 use Rattle.otap_kept.specs.Numbers.{new_number}
-use Rattle.otap_kept.specs.Rows.{former_ids, is_above, own_cells, parts_under, placed_if, under}
+use Rattle.otap_kept.specs.Rows.{former_ids, has_lesser_parent, own_cells, parts_under, placed_if, under}
 use Rattle.otap_kept.proofs.NewNumbers.{AreApart, found_at, number_at, one_number}
 
 abbrev pub names : ℕ → PlacedIn ChildRow → Bool
@@ -73,7 +73,7 @@ module _ (ids : List (Option ℕ)) where
 
 -- ---- the sort by parent leaves those of each parent in their order
 
-placed_kept : (n : ℕ) (x : PlacedIn ChildRow) (ys : List (PlacedIn ChildRow)) → filter (names n) (placed_by is_above x ys) ≡ filter (names n) (x ∷ ys)
+placed_kept : (n : ℕ) (x : PlacedIn ChildRow) (ys : List (PlacedIn ChildRow)) → filter (names n) (placed_by has_lesser_parent x ys) ≡ filter (names n) (x ∷ ys)
 placed_kept n x [] = refl
 placed_kept n x (y ∷ ys) = elim (cases_Bool (nat_lt y.parent x.parent)) [
   | inr f ↦ rw f refl
@@ -85,9 +85,9 @@ placed_kept n x (y ∷ ys) = elim (cases_Bool (nat_lt y.parent x.parent)) [
   ])
 ]
 
-pub sorted_kept : (n : ℕ) (ps : List (PlacedIn ChildRow)) → filter (names n) (sorted_by is_above ps) ≡ filter (names n) ps
+pub sorted_kept : (n : ℕ) (ps : List (PlacedIn ChildRow)) → filter (names n) (sorted_by has_lesser_parent ps) ≡ filter (names n) ps
 sorted_kept n [] = refl
-sorted_kept n (p ∷ ps) = placed_kept n p (sorted_by is_above ps) ∙ ap (λ (rows : List (PlacedIn ChildRow)). cond (names n p) (p ∷ rows) rows) (sorted_kept n ps)
+sorted_kept n (p ∷ ps) = placed_kept n p (sorted_by has_lesser_parent ps) ∙ ap (λ (rows : List (PlacedIn ChildRow)). cond (names n p) (p ∷ rows) rows) (sorted_kept n ps)
 
 pub parts_found : (ids : List (Option ℕ)) (n : ℕ) (rows : List ChildRow) → filter (names n) (parts_under ids rows) ≡ filter (names n) (under ids rows)
 unfolding parts_under

@@ -24,7 +24,7 @@ use Rattle.otap_attrs.proofs.TablePairs.{ids_long}
 use Rattle.otap_checks.specs.Links.{items}
 use Rattle.otap_checks.specs.Reading.{main_rows_in}
 use Rattle.otap_kept.specs.declared.whose.Whose.{Whose}
-use Rattle.otap_kept.specs.Accepted.{AreAccepted}
+use Rattle.otap_kept.specs.Clean.{AreCleanAndLight}
 use Rattle.otap_kept.specs.Falling.{HasPlainIds}
 use Rattle.otap_kept.specs.Kept.{is_kept, is_ordered, kept_rows}
 use Rattle.otap_kept.specs.Numbering.{numbers_rise}
@@ -109,7 +109,7 @@ never_fall ids rises = elim (cases_Bool (numbers_rise ids)) [
 
 -- ---- the tables of a batch
 
-module _ (of : Signal) (by : Whose) (pair : Pair) (tables : List Table) (accepted : AreAccepted of tables) (are : All IsTable tables) where
+module _ (of : Signal) (by : Whose) (pair : Pair) (tables : List Table) (accepted : AreCleanAndLight of tables) (are : All IsTable tables) where
   abbrev main : Kind
   main = main_of of
 

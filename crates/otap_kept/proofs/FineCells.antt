@@ -23,7 +23,7 @@ use Rattle.otap_checks.specs.Shapes.{WrongParent, WrongType, is_type, type_at}
 use Rattle.otap_checks.proofs.GivenColumns.{one_given}
 use Rattle.otap_checks.proofs.TableIds.{disagree_too, disagrees_too}
 use Rattle.otap_kept.specs.Numbers.{first_ids, new_number}
-use Rattle.otap_kept.specs.Rows.{is_above, own_cells, own_ids, parts_under, renew, renewed, renewed_from, resource_ids, scope_ids, under}
+use Rattle.otap_kept.specs.Rows.{has_lesser_parent, own_cells, own_ids, parts_under, renew, renewed, renewed_from, resource_ids, scope_ids, under}
 use Rattle.otap_kept.specs.Tables.{kept_main, kept_parts, past_id, stored_main}
 use Rattle.otap_kept.proofs.Each.{each_is, each_sorted, each_under}
 use Rattle.otap_kept.proofs.FineIds.{parents_from}
@@ -219,7 +219,7 @@ IsNamed ids rows n = (row : ChildRow) × Contains rows row × (new_number ids ro
 named_parts : (ids : List (Option ℕ)) (rows : List ChildRow) → AllByRecursion (λ p. IsNamed ids rows p.parent) (parts_under ids rows)
 unfolding parts_under
 named_parts ids rows =
-    each_sorted (λ p. IsNamed ids rows p.parent) is_above (under ids rows)
+    each_sorted (λ p. IsNamed ids rows p.parent) has_lesser_parent (under ids rows)
     (each_under (λ p. IsNamed ids rows p.parent) ids rows (each_is (λ row. (n : ℕ) → new_number ids row.parent ≡ Some n → IsNamed ids rows n) rows (λ row at n is. (row, at, is))))
 
 module _ (fits : ℕ → Bool) (kind main : Kind) (t other_main : Table) (test : MainRow → Bool) (long : length (ids_in t 1) ≡ length t.rows)

@@ -30,7 +30,7 @@ use Rattle.otap_checks.specs.Written.{IsPartKind}
 use Rattle.otap_checks.proofs.GivenColumns.{nothing_wrong, one_given, own_once}
 use Rattle.otap_checks.proofs.PairParents.{attribute_ids}
 use Rattle.otap_kept.specs.Numbers.{new_number}
-use Rattle.otap_kept.specs.Rows.{is_above, own_cells, own_ids, parts_under, renewed_from, under}
+use Rattle.otap_kept.specs.Rows.{has_lesser_parent, own_cells, own_ids, parts_under, renewed_from, under}
 use Rattle.otap_kept.specs.Tables.{kept_attributes, kept_parts, row_of_placed}
 use Rattle.otap_kept.proofs.AttributeTables.{HasParents, kept_parents}
 use Rattle.otap_kept.proofs.Each.{each_sorted, each_under}
@@ -87,7 +87,7 @@ all_below ids rows = each_under (λ p. p.parent < length ids) ids rows (each row
 
 parts_below : (ids : List (Option ℕ)) (rows : List ChildRow) → AllByRecursion (λ p. p.parent < length ids) (parts_under ids rows)
 unfolding parts_under
-parts_below ids rows = each_sorted (λ p. p.parent < length ids) is_above (under ids rows) (all_below ids rows)
+parts_below ids rows = each_sorted (λ p. p.parent < length ids) has_lesser_parent (under ids rows) (all_below ids rows)
 
 -- ---- one table below, the ids of whose parents another table has
 

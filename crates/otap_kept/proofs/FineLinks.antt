@@ -32,7 +32,7 @@ use Rattle.otap_checks.specs.Reading.{part_rows_in}
 use Rattle.otap_checks.specs.Written.{IsMainKind, IsPartKind}
 use Rattle.otap_checks.proofs.GivenColumns.{nothing_wrong, one_given, own_once}
 use Rattle.otap_checks.proofs.MainKinds.{logs_kind, metrics_kind, other_name, spans_kind}
-use Rattle.otap_kept.specs.Accepted.{AreAccepted}
+use Rattle.otap_kept.specs.Clean.{AreCleanAndLight}
 use Rattle.otap_kept.specs.Kept.{KeptIds, kept_below, kept_ids, kept_of, known_after, links_below, main_ids, parent_ids, table_below, tables_below}
 use Rattle.otap_kept.specs.Numbers.{first_ids, new_number}
 use Rattle.otap_kept.specs.Rows.{former_ids, own_ids, parts_under, renewed, renewed_from, resource_ids, scope_ids, under}
@@ -165,7 +165,7 @@ links_are signal.Logs = refl
 links_are signal.Traces = refl
 links_are signal.Metrics = refl
 
-module _ (of : Signal) (tables : List Table) (rows : List MainRow) (accepted : AreAccepted of tables) where
+module _ (of : Signal) (tables : List Table) (rows : List MainRow) (accepted : AreCleanAndLight of tables) where
   abbrev all : List Table
   all = kept_of of rows tables
 

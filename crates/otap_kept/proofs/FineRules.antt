@@ -26,7 +26,7 @@ use Rattle.otap_checks.specs.Ruled.{Keeps}
 use Rattle.otap_checks.specs.Rules.{rule, rules_of}
 use Rattle.otap_checks.specs.Shapes.{WrongParent, fits_of}
 use Rattle.otap_kept.specs.declared.whose.Whose.{Whose}
-use Rattle.otap_kept.specs.Accepted.{AreAccepted}
+use Rattle.otap_kept.specs.Clean.{AreCleanAndLight}
 use Rattle.otap_kept.specs.Kept.{is_kept, is_ordered, kept_of, kept_rows, table_below}
 use Rattle.otap_kept.specs.Numbers.{first_ids}
 use Rattle.otap_kept.specs.Rows.{renewed, renewed_from, resource_ids, scope_ids}
@@ -123,7 +123,7 @@ kept_size kind rows =
 
 -- ---- the tables of a signal
 
-module _ (of : Signal) (by : Whose) (pair : Pair) (tables : List Table) (accepted : AreAccepted of tables) (ordered : is_ordered of by pair tables ≡ true) where
+module _ (of : Signal) (by : Whose) (pair : Pair) (tables : List Table) (accepted : AreCleanAndLight of tables) (ordered : is_ordered of by pair tables ≡ true) where
   abbrev rows : List MainRow
   rows = kept_rows of by pair tables
 

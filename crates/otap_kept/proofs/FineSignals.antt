@@ -26,7 +26,7 @@ use Rattle.otap_checks.specs.Rules.{rule, rules_of}
 use Rattle.otap_checks.specs.Shapes.{WrongParent, fits_of}
 use Rattle.otap_points.proofs.PointColumns.{hists_are_parts, points_are_parts, summaries_are_parts}
 use Rattle.otap_kept.specs.declared.whose.Whose.{Whose}
-use Rattle.otap_kept.specs.Accepted.{AreAccepted}
+use Rattle.otap_kept.specs.Clean.{AreCleanAndLight}
 use Rattle.otap_kept.specs.Kept.{is_kept, is_ordered, kept, kept_of, kept_rows, links_below}
 use Rattle.otap_kept.specs.Numbers.{first_ids}
 use Rattle.otap_kept.specs.Rows.{own_ids, parts_under, renewed, resource_ids, scope_ids}
@@ -42,7 +42,7 @@ use Rattle.otap_kept.proofs.MainTables.{under_low}
 use Rattle.otap_kept.proofs.MetricsKept.{hists_listed, hists_named, points_listed, points_named, summaries_listed, summaries_named}
 use Rattle.otap_kept.proofs.PartTables.{kept_part_parents, parts_low, parts_rising}
 
-module _ (by : Whose) (pair : Pair) (tables : List Table) (accepted : AreAccepted signal.Logs tables) (ordered : is_ordered signal.Logs by pair tables ≡ true) where
+module _ (by : Whose) (pair : Pair) (tables : List Table) (accepted : AreCleanAndLight signal.Logs tables) (ordered : is_ordered signal.Logs by pair tables ≡ true) where
   abbrev of_logs : List Table
   of_logs = kept_of signal.Logs (kept_rows signal.Logs by pair tables) tables
 
@@ -66,7 +66,7 @@ module _ (by : Whose) (pair : Pair) (tables : List Table) (accepted : AreAccepte
         ),
       )
 
-module _ (by : Whose) (pair : Pair) (tables : List Table) (accepted : AreAccepted signal.Traces tables) (ordered : is_ordered signal.Traces by pair tables ≡ true) where
+module _ (by : Whose) (pair : Pair) (tables : List Table) (accepted : AreCleanAndLight signal.Traces tables) (ordered : is_ordered signal.Traces by pair tables ≡ true) where
   abbrev of_spans : List Table
   of_spans = kept_of signal.Traces (kept_rows signal.Traces by pair tables) tables
 
@@ -93,7 +93,7 @@ module _ (by : Whose) (pair : Pair) (tables : List Table) (accepted : AreAccepte
         ),
       )
 
-module _ (by : Whose) (pair : Pair) (tables : List Table) (accepted : AreAccepted signal.Metrics tables) (ordered : is_ordered signal.Metrics by pair tables ≡ true) where
+module _ (by : Whose) (pair : Pair) (tables : List Table) (accepted : AreCleanAndLight signal.Metrics tables) (ordered : is_ordered signal.Metrics by pair tables ≡ true) where
   abbrev rows : List MainRow
   rows = kept_rows signal.Metrics by pair tables
 
@@ -183,7 +183,7 @@ module _ (by : Whose) (pair : Pair) (tables : List Table) (accepted : AreAccepte
       )
 
 -- NOTHING IS WRONG with the rows of what is kept
-pub none_wrong : (of : Signal) (by : Whose) (pair : Pair) (tables : List Table) → AreAccepted of tables → is_ordered of by pair tables ≡ true
+pub none_wrong : (of : Signal) (by : Whose) (pair : Pair) (tables : List Table) → AreCleanAndLight of tables → is_ordered of by pair tables ≡ true
     → (kind : Kind) (wrong : RowRefusal) → RowDefect of (kept of by pair tables) kind wrong → ⊥
 unfolding kept
 none_wrong signal.Logs by pair tables accepted ordered = no_defect signal.Logs by pair tables accepted ordered (logs_stay by pair tables accepted ordered)

@@ -24,7 +24,7 @@ use Rattle.otap_attrs.specs.Index.{attribute_rows_in}
 use Rattle.otap_attrs.specs.Sorting.{coded_after, coded_rows, is_before, parent_in, sorted_by, sorted_rows}
 use Rattle.otap_checks.specs.Reading.{main_rows_in, part_rows_in}
 use Rattle.otap_kept.specs.Numbers.{first_ids, new_number}
-use Rattle.otap_kept.specs.Rows.{is_above, own_cells, own_ids, parts_under, renewed, renewed_from, resource_ids, scope_ids, under}
+use Rattle.otap_kept.specs.Rows.{has_lesser_parent, own_cells, own_ids, parts_under, renewed, renewed_from, resource_ids, scope_ids, under}
 use Rattle.otap_kept.specs.Tables.{distance, kept_attributes, kept_main, kept_parts, past_id, row_of_placed, stored_main}
 use Rattle.otap_kept.proofs.Each.{each_is, each_sorted, each_there, each_under}
 use Rattle.otap_kept.proofs.MainTables.{few_first, numbers_low, own_few, resources_few, scopes_few}
@@ -126,8 +126,8 @@ module _ (kind : Kind) where
       → AllByRecursion (IsRow (columns_of kind)) (kept_parts kind (parts_under ids (part_rows_in t))).rows
   unfolding kept_parts parts_under
   kept_parts_fit t is same id above wide ids few =
-      parts_fit id above (coding_at kind 1) (again_of kind) 0 0 None (sorted_by is_above (under ids (part_rows_in t))) (omega arith)
-      (each_sorted (λ p. FitBehindTwo p.part.cells × (p.parent ≤ 4294967295)) is_above (under ids (part_rows_in t))
+      parts_fit id above (coding_at kind 1) (again_of kind) 0 0 None (sorted_by has_lesser_parent (under ids (part_rows_in t))) (omega arith)
+      (each_sorted (λ p. FitBehindTwo p.part.cells × (p.parent ≤ 4294967295)) has_lesser_parent (under ids (part_rows_in t))
       (under_fit FitBehindTwo ids (part_rows_in t) few (found FitBehindTwo (ids_in t 0) (ids_in t 1) (map (drop 2) t.rows) (dropped FitBehindTwo 2 t.rows (λ row within x y a b.
       two_fit (columns_of kind) (get_or t.rows row []) x y (subst (λ kind. IsRow (columns_of kind) (get_or t.rows row [])) same (row_of_table t is row within)) wide a b)))))
 

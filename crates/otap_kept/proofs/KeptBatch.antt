@@ -17,7 +17,7 @@ use Rattle.otap_checks.specs.declared.links.TableLink.{TableLink}
 use Rattle.otap_checks.specs.Known.{Knows, KnowsAll}
 use Rattle.otap_checks.specs.Links.{links_of}
 use Rattle.otap_kept.specs.declared.whose.Whose.{Whose}
-use Rattle.otap_kept.specs.Accepted.{AreAccepted}
+use Rattle.otap_kept.specs.Clean.{AreCleanAndLight}
 use Rattle.otap_kept.specs.Holding.{main_row_in}
 use Rattle.otap_kept.specs.Kept.{is_ordered, kept, kept_below, kept_of, kept_rows, links_below}
 use Rattle.otap_kept.specs.Rows.{renewed}
@@ -52,7 +52,7 @@ module _ (of : Signal) (by : Whose) (pair : Pair) (tables : List Table) where
           subst (λ main. All (λ place. place < length (table_named main tables).rows) lent) (sym named)
           (subst (All (λ place. place < length (table_named (main_of of) tables).rows)) (sym is) within)
 
-      pub rows_few : AreAccepted of tables → length lent ≤ 2 ^ 32
+      pub rows_few : AreCleanAndLight of tables → length lent ≤ 2 ^ 32
       rows_few accepted = omega (arith, ap length is, places_few of by pair tables read knows places are accepted)
 
       pub order_is : (b : Bool) → places_rise m read lent ≡ b → is_ordered of by pair tables ≡ b

@@ -19,7 +19,7 @@ use Rattle.otap_checks.specs.declared.known.ColumnIds.{ColumnIds}
 use Rattle.otap_checks.specs.Known.{Knows, KnowsAll, ids_named}
 use Rattle.otap_checks.specs.Links.{links_of}
 use Rattle.otap_kept.specs.declared.whose.Whose.{Whose}
-use Rattle.otap_kept.specs.Accepted.{AreAccepted}
+use Rattle.otap_kept.specs.Clean.{AreCleanAndLight}
 use Rattle.otap_kept.specs.Holding.{main_row_in}
 use Rattle.otap_kept.specs.Kept.{KeptIds, is_ordered, kept_below, kept_ids, kept_of, kept_rows, links_below, main_ids, rise}
 use Rattle.otap_kept.specs.Numbering.{numbers_rise}
@@ -105,7 +105,7 @@ module _ (of : Signal) (by : Whose) (pair : Pair) (tables : List Table) (read : 
   unfolding is_ordered
   ordered_is = rise_again main t read (main_known of tables read knows) (is_main of) places ∙ ap (λ rows. rise (renewed rows)) are
 
-  pub places_few : AreAccepted of tables → length places ≤ 2 ^ 32
+  pub places_few : AreCleanAndLight of tables → length places ≤ 2 ^ 32
   places_few accepted =
       omega (arith, kept_few of by pair tables accepted, ap length are, length-map places (main_row_in (table_named (main_of of) tables)))
 

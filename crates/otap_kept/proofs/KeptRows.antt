@@ -16,7 +16,7 @@ use Rattle.otap_groups.specs.Rows.{main_row_at, main_rows}
 use Rattle.otap_checks.specs.Reading.{main_rows_in}
 use Rattle.otap_checks.proofs.MainKinds.{logs_are_main, metrics_are_main, spans_are_main}
 use Rattle.otap_kept.specs.declared.whose.Whose.{Whose}
-use Rattle.otap_kept.specs.Accepted.{AreAccepted}
+use Rattle.otap_kept.specs.Clean.{AreCleanAndLight}
 use Rattle.otap_kept.specs.Kept.{is_kept, is_ordered, kept_of, kept_rows}
 use Rattle.otap_kept.specs.Rows.{renewed}
 use Rattle.otap_kept.proofs.AcceptedTables.{few_rows}
@@ -48,13 +48,13 @@ module _ (of : Signal) (by : Whose) (pair : Pair) (tables : List Table) where
       let t : Table = table_named (main_of of) tables in
       shaped_filter (is_kept of by pair tables) (main_rows_in t) (shaped_rows (ids_in t 0) (ids_in t 1) (ids_in t 4) t.rows)
 
-  pub kept_few : AreAccepted of tables → length (kept_rows of by pair tables) ≤ 2 ^ 21
+  pub kept_few : AreCleanAndLight of tables → length (kept_rows of by pair tables) ≤ 2 ^ 21
   unfolding kept_rows
   kept_few accepted =
       let t : Table = table_named (main_of of) tables in
       omega (arith, fewer (is_kept of by pair tables) (main_rows_in t), main_count t, few_rows of tables accepted (main_of of))
 
-  module _ (accepted : AreAccepted of tables) (ordered : is_ordered of by pair tables ≡ true) where
+  module _ (accepted : AreCleanAndLight of tables) (ordered : is_ordered of by pair tables ≡ true) where
     pub main_has_ids : HasMainIds (main_of of) (renewed (kept_rows of by pair tables))
     unfolding is_ordered
     main_has_ids = kept_main_ids (main_of of) (kept_rows of by pair tables) (is_main of) shaped (omega (arith, kept_few accepted)) ordered

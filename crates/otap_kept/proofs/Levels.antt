@@ -23,7 +23,7 @@ use Rattle.otap_attrs.specs.Index.{attribute_rows_in, pairs_in}
 use Rattle.otap_checks.specs.declared.links.TableLink.{TableLink}
 use Rattle.otap_checks.specs.Links.{links_of}
 use Rattle.otap_checks.specs.Reading.{part_rows_in}
-use Rattle.otap_kept.specs.Accepted.{AreAccepted}
+use Rattle.otap_kept.specs.Clean.{AreCleanAndLight}
 use Rattle.otap_kept.specs.Rows.{former_ids, own_cells, parts_under, under}
 use Rattle.otap_kept.specs.Tables.{kept_parts}
 use Rattle.otap_kept.proofs.AcceptedTables.{few_rows, kept_parts_apart}
@@ -57,7 +57,7 @@ pub part_count : (t : Table) → length (part_rows_in t) ≡ length t.rows
 unfolding child_rows
 part_count t = length-map-range_with_len (child_row_at (ids_in t 0) (ids_in t 1) (map (drop 2) t.rows)) 0 (length (map (drop 2) t.rows)) ∙ length-map t.rows (drop 2)
 
-module _ (of : Signal) (tables : List Table) (accepted : AreAccepted of tables) (link : TableLink) (listed : Contains (links_of of) link) (own : link.own ≡ Some 0)
+module _ (of : Signal) (tables : List Table) (accepted : AreCleanAndLight of tables) (link : TableLink) (listed : Contains (links_of of) link) (own : link.own ≡ Some 0)
     (part : IsPart link.kind) (ids : List (Option ℕ)) where
   abbrev ps : List (PlacedIn ChildRow)
   ps = parts_under ids (part_rows_in (table_named link.kind tables))

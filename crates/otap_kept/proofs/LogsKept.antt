@@ -20,8 +20,8 @@ use Rattle.otap_logs.specs.Records.{record_of}
 use Rattle.otap_logs.specs.Requests.{record_in, regrouped_logs}
 use Rattle.otap_kept.specs.declared.whose.Whose.{Whose}
 use Rattle.otap_kept.specs.declared.whose.Whose.TheVariants as whose
-use Rattle.otap_kept.specs.Accepted.{AreAccepted}
-use Rattle.otap_kept.specs.Filtered.{IsNoHeavier, TellsFilter, entry_has}
+use Rattle.otap_kept.specs.Clean.{AreCleanAndLight}
+use Rattle.otap_kept.specs.Filtered.{IsNoHeavier, MeansFilter, entry_has}
 use Rattle.otap_kept.specs.Kept.{is_kept, is_ordered, kept, kept_of, kept_rows}
 use Rattle.otap_kept.specs.Numbers.{first_ids}
 use Rattle.otap_kept.specs.Rows.{own_ids, resource_ids, scope_ids, under}
@@ -86,7 +86,7 @@ module _ (by : Whose) (pair : Pair) (tables : List Table) where
   unfolding kept_rows
   rows_are = refl
 
-  module _ (accepted : AreAccepted signal.Logs tables) (ordered : is_ordered signal.Logs by pair tables ≡ true) where
+  module _ (accepted : AreCleanAndLight signal.Logs tables) (ordered : is_ordered signal.Logs by pair tables ≡ true) where
     own_apart : AreApart (own_ids rows)
     unfolding links_of kept_rows
     own_apart = rows_apart signal.Logs tables accepted (items table.Logs) (0, omega arith, refl) refl logs_are_main.id (is_kept signal.Logs by pair tables)
@@ -110,7 +110,7 @@ module _ (by : Whose) (pair : Pair) (tables : List Table) where
         subst (λ (t : Table). SameLogRecord (record_of cells (pairs_before id)) (record_of cells (pairs_in t id))) (sym pairs_named)
         (same_record cells _ _ (kept_pairs table.LogAttrs (under (own_ids rows) (attribute_rows_in (table_named table.LogAttrs tables))) refl low id))
 
-    pub logs_tell : TellsFilter signal.Logs by pair tables
+    pub logs_tell : MeansFilter signal.Logs by pair tables
     unfolding kept regrouped_logs
     logs_tell = tells_filter table.Logs record_of pairs_found pairs_before tables all rows kept_as SameLogRecord log_record (λ a b same. same) same (entry_has by pair) are
 

@@ -24,7 +24,7 @@ use Rattle.otap_checks.specs.Rules.{pairs, rules_of}
 use Rattle.otap_checks.specs.ValueDefects.{HasFineValues}
 use Rattle.otap_kept.specs.declared.whose.Whose.{Whose}
 use Rattle.otap_kept.specs.declared.whose.Whose.TheVariants as whose
-use Rattle.otap_kept.specs.Accepted.{AreAccepted}
+use Rattle.otap_kept.specs.Clean.{AreCleanAndLight}
 use Rattle.otap_kept.specs.Holding.{is_among, looked_at, main_row_in, places_among}
 use Rattle.otap_kept.specs.Kept.{has, is_kept, kept_rows}
 use Rattle.otap_kept.proofs.KeptRows.{is_main}
@@ -84,7 +84,8 @@ each_looked signal.Metrics whose.Item = tt
 pub looked : (of : Signal) (by : Whose) (kind : Kind) (column : ℕ) → looked_at of by ≡ Some (kind, column) → IsLookedAt of kind column
 looked of by kind column is = subst (IsLookedIf of) is (each_looked of by)
 
-pub looked_fine : (of : Signal) (tables : List Table) (kind : Kind) (column : ℕ) → AreAccepted of tables → IsLookedAt of kind column → HasFineValues tables kind
+pub looked_fine : (of : Signal) (tables : List Table) (kind : Kind) (column : ℕ) → AreCleanAndLight of tables → IsLookedAt of kind column
+    → HasFineValues tables kind
 looked_fine of tables kind column accepted is = λ wrong bad. accepted.clean kind wrong (inr (record { rule = pairs kind; listed = is.rule; names = refl; is = bad }))
 
 -- whether a row is kept, by the pairs of its owner

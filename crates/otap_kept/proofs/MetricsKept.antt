@@ -25,8 +25,8 @@ use Rattle.otap_metrics.specs.Metrics.{Below, metric_of}
 use Rattle.otap_metrics.specs.Requests.{metric_in, regrouped_metrics}
 use Rattle.otap_kept.specs.declared.whose.Whose.{Whose}
 use Rattle.otap_kept.specs.declared.whose.Whose.TheVariants as whose
-use Rattle.otap_kept.specs.Accepted.{AreAccepted}
-use Rattle.otap_kept.specs.Filtered.{IsNoHeavier, TellsFilter, entry_has}
+use Rattle.otap_kept.specs.Clean.{AreCleanAndLight}
+use Rattle.otap_kept.specs.Filtered.{IsNoHeavier, MeansFilter, entry_has}
 use Rattle.otap_kept.specs.Kept.{is_kept, is_ordered, kept, kept_of, kept_rows}
 use Rattle.otap_kept.specs.Numbers.{first_ids}
 use Rattle.otap_kept.specs.Rows.{former_ids, own_cells, own_ids, parts_under, resource_ids, scope_ids}
@@ -172,7 +172,7 @@ module _ (by : Whose) (pair : Pair) (tables : List Table) where
   unfolding kept_rows
   rows_are = refl
 
-  module _ (accepted : AreAccepted signal.Metrics tables) (ordered : is_ordered signal.Metrics by pair tables ≡ true) where
+  module _ (accepted : AreCleanAndLight signal.Metrics tables) (ordered : is_ordered signal.Metrics by pair tables ≡ true) where
     own_apart : AreApart own
     unfolding links_of kept_rows
     own_apart = rows_apart signal.Metrics tables accepted (items table.Metrics) (0, omega arith, refl) refl metrics_are_main.id (is_kept signal.Metrics by pair tables)
@@ -222,7 +222,7 @@ module _ (by : Whose) (pair : Pair) (tables : List Table) where
           (λ id cells. same_sum_point cells _ _ (pairs_alike table.SummaryPointAttrs (former_ids summaries) tables all refl few_summaries summary_pairs_named id));
     })
 
-    pub metrics_tell : TellsFilter signal.Metrics by pair tables
+    pub metrics_tell : MeansFilter signal.Metrics by pair tables
     unfolding kept regrouped_metrics
     metrics_tell = tells_filter table.Metrics metric_of below_in before tables all rows kept_as SameMetric metric (λ a b same. same) same (entry_has by pair) are
 

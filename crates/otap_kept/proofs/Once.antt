@@ -8,7 +8,7 @@ use Rattle.otap_groups.specs.Flat.{PlacedIn}
 use Rattle.otap_groups.specs.Rows.{ChildRow, MainRow}
 use Rattle.otap_attrs.specs.Sorting.{placed_by, sorted_by}
 use Rattle.otap_kept.specs.Numbers.{new_number}
-use Rattle.otap_kept.specs.Rows.{former_ids, is_above, own_ids, parts_under, placed_if, under}
+use Rattle.otap_kept.specs.Rows.{former_ids, has_lesser_parent, own_ids, parts_under, placed_if, under}
 use Rattle.otap_kept.proofs.NewNumbers.{AreApart}
 
 abbrev pub one : Option ℕ → ℕ → ℕ
@@ -64,7 +64,8 @@ times_under : (n : ℕ) (ids : List (Option ℕ)) (rows : List ChildRow) → tim
 times_under n ids [] = omega arith
 times_under n ids (row ∷ rows) = omega (arith, times_if n (new_number ids row.parent) row (under ids rows), times_under n ids rows, times_more n row.id (map child_id rows))
 
-times_placed : (n : ℕ) (x : PlacedIn ChildRow) (ys : List (PlacedIn ChildRow)) → times n (former_ids (placed_by is_above x ys)) ≡ times n (former_ids (x ∷ ys))
+times_placed : (n : ℕ) (x : PlacedIn ChildRow) (ys : List (PlacedIn ChildRow))
+    → times n (former_ids (placed_by has_lesser_parent x ys)) ≡ times n (former_ids (x ∷ ys))
 times_placed n x [] = refl
 times_placed n x (y ∷ ys) =
     let ih = times_placed n x ys in elim (cases_Bool (nat_lt y.parent x.parent)) [
@@ -72,20 +73,20 @@ times_placed n x (y ∷ ys) =
       | inl t ↦ rw t (omega (
         arith,
         ih,
-        times_more n y.part.id (former_ids (placed_by is_above x ys)),
+        times_more n y.part.id (former_ids (placed_by has_lesser_parent x ys)),
         times_more n x.part.id (former_ids (y ∷ ys)),
         times_more n y.part.id (former_ids ys),
         times_more n x.part.id (former_ids ys),
       ))
     ]
 
-times_sorted : (n : ℕ) (ps : List (PlacedIn ChildRow)) → times n (former_ids (sorted_by is_above ps)) ≡ times n (former_ids ps)
+times_sorted : (n : ℕ) (ps : List (PlacedIn ChildRow)) → times n (former_ids (sorted_by has_lesser_parent ps)) ≡ times n (former_ids ps)
 times_sorted n [] = refl
 times_sorted n (p ∷ ps) =
-    omega (arith, times_placed n p (sorted_by is_above ps), times_sorted n ps, times_more n p.part.id (former_ids (sorted_by is_above ps)), times_more n p.part.id (former_ids ps))
+    omega (arith, times_placed n p (sorted_by has_lesser_parent ps), times_sorted n ps, times_more n p.part.id (former_ids (sorted_by has_lesser_parent ps)), times_more n p.part.id (former_ids ps))
 
 -- THE IDS OF KEPT PARTS are apart where those of all are
 pub parts_apart : (ids : List (Option ℕ)) (rows : List ChildRow) → ((n : ℕ) → times n (map child_id rows) ≤ 1) → AreApart (former_ids (parts_under ids rows))
 unfolding parts_under
 parts_apart ids rows once =
-    apart_once (former_ids (sorted_by is_above (under ids rows))) (λ n. omega (arith, times_sorted n (under ids rows), times_under n ids rows, once n))
+    apart_once (former_ids (sorted_by has_lesser_parent (under ids rows))) (λ n. omega (arith, times_sorted n (under ids rows), times_under n ids rows, once n))

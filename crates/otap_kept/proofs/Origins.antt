@@ -21,7 +21,7 @@ use Rattle.otap_attrs.specs.Sorting.{coded_after, coded_rows, is_before, sorted_
 use Rattle.otap_checks.specs.Reading.{main_rows_in, part_rows_in}
 use Rattle.otap_kept.specs.Kept.{table_below}
 use Rattle.otap_kept.specs.Numbers.{first_ids, new_number}
-use Rattle.otap_kept.specs.Rows.{is_above, own_cells, parts_under, renewed, renewed_from, resource_ids, scope_ids, under}
+use Rattle.otap_kept.specs.Rows.{has_lesser_parent, own_cells, parts_under, renewed, renewed_from, resource_ids, scope_ids, under}
 use Rattle.otap_kept.specs.Tables.{kept_attributes, kept_main, kept_parts, past_id, row_of_placed, stored_main}
 use Rattle.otap_kept.proofs.Each.{each_is, each_sorted, each_under}
 use Rattle.otap_kept.proofs.MainRows.{IsShaped}
@@ -147,7 +147,7 @@ below_come_from tables ids kind = elim (cases_Bool (has_attributes kind)) [
   | inr other ↦
       let Q : List Cell → Type 0 = Contains (map (drop 2) t.rows) in
       rw other (come_from 2 t.rows (kept_parts kind (parts_under ids (part_rows_in t))).rows
-      (parts_each Q kind (parts_under ids (part_rows_in t)) (each_sorted (λ p. Q p.part.cells) is_above (under ids (part_rows_in t))
+      (parts_each Q kind (parts_under ids (part_rows_in t)) (each_sorted (λ p. Q p.part.cells) has_lesser_parent (under ids (part_rows_in t))
       (weaker Q ids (part_rows_in t) (children_there (ids_in t 0) (ids_in t 1) (map (drop 2) t.rows))))))
 ]
   where

@@ -22,8 +22,9 @@ use Rattle.otap_attrs.specs.Values.{BadValue, pair_in}
 use Rattle.otap_attrs.proofs.TablePairs.{ids_are, ids_long}
 use Rattle.otap_checks.specs.ValueDefects.{HasFineValues}
 use Rattle.otap_kept.specs.declared.text_pair.TextPair.{TextPair}
-use Rattle.otap_kept.specs.Holding.{is_among, parents_saying, says, text_pair}
+use Rattle.otap_kept.specs.Holding.{is_among, parents_saying, says}
 use Rattle.otap_kept.specs.Kept.{has}
+use Rattle.otap_kept.specs.Texts.{text_pair}
 use Rattle.otap_kept.proofs.TextPairs.{said_is}
 
 -- ---- attributes row by row

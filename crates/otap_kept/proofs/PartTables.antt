@@ -26,13 +26,14 @@ use Rattle.otap_attrs.specs.Sorting.{placed_by, sorted_by}
 use Rattle.otap_attrs.proofs.TablePairs.{ids_are}
 use Rattle.otap_checks.specs.Reading.{part_rows_in}
 use Rattle.otap_kept.specs.Numbers.{new_number}
-use Rattle.otap_kept.specs.Rows.{is_above, own_cells, parts_under, placed_if, under}
+use Rattle.otap_kept.specs.Rows.{has_lesser_parent, own_cells, parts_under, placed_if, under}
 use Rattle.otap_kept.specs.Tables.{kept_parts}
 use Rattle.otap_kept.proofs.AttributeTables.{AreLow}
 
 -- ---- parents in their order
 
-rising_placed : (before : ℕ) (x : PlacedIn ChildRow) (ys : List (PlacedIn ChildRow)) → before ≤ x.parent → RisingParts before ys → RisingParts before (placed_by is_above x ys)
+rising_placed : (before : ℕ) (x : PlacedIn ChildRow) (ys : List (PlacedIn ChildRow)) → before ≤ x.parent → RisingParts before ys
+    → RisingParts before (placed_by has_lesser_parent x ys)
 rising_placed before x [] low rising = (low, tt)
 rising_placed before x (y ∷ ys) low rising = elim (cases_Bool (nat_lt y.parent x.parent)) [
   | inl t ↦
@@ -43,31 +44,31 @@ rising_placed before x (y ∷ ys) low rising = elim (cases_Bool (nat_lt y.parent
       rw f (low, (more, rising.1))
 ]
 
-rising_sorted : (ps : List (PlacedIn ChildRow)) → RisingParts 0 (sorted_by is_above ps)
+rising_sorted : (ps : List (PlacedIn ChildRow)) → RisingParts 0 (sorted_by has_lesser_parent ps)
 rising_sorted [] = tt
-rising_sorted (p ∷ ps) = rising_placed 0 p (sorted_by is_above ps) (omega arith) (rising_sorted ps)
+rising_sorted (p ∷ ps) = rising_placed 0 p (sorted_by has_lesser_parent ps) (omega arith) (rising_sorted ps)
 
-low_placed : (x : PlacedIn ChildRow) (ys : List (PlacedIn ChildRow)) → x.parent ≤ 4294967295 → AreLow ys → AreLow (placed_by is_above x ys)
+low_placed : (x : PlacedIn ChildRow) (ys : List (PlacedIn ChildRow)) → x.parent ≤ 4294967295 → AreLow ys → AreLow (placed_by has_lesser_parent x ys)
 low_placed x [] one low = (one, tt)
 low_placed x (y ∷ ys) one low = elim (cases_Bool (nat_lt y.parent x.parent)) [
   | inl t ↦ rw t (low.0, low_placed x ys one low.1)
   | inr f ↦ rw f (one, low)
 ]
 
-low_sorted : (ps : List (PlacedIn ChildRow)) → AreLow ps → AreLow (sorted_by is_above ps)
+low_sorted : (ps : List (PlacedIn ChildRow)) → AreLow ps → AreLow (sorted_by has_lesser_parent ps)
 low_sorted [] low = tt
-low_sorted (p ∷ ps) low = low_placed p (sorted_by is_above ps) low.0 (low_sorted ps low.1)
+low_sorted (p ∷ ps) low = low_placed p (sorted_by has_lesser_parent ps) low.0 (low_sorted ps low.1)
 
-size_placed : (x : PlacedIn ChildRow) (ys : List (PlacedIn ChildRow)) → length (placed_by is_above x ys) ≡ suc (length ys)
+size_placed : (x : PlacedIn ChildRow) (ys : List (PlacedIn ChildRow)) → length (placed_by has_lesser_parent x ys) ≡ suc (length ys)
 size_placed x [] = refl
 size_placed x (y ∷ ys) = elim (cases_Bool (nat_lt y.parent x.parent)) [
   | inl t ↦ rw t (ap suc (size_placed x ys))
   | inr f ↦ rw f refl
 ]
 
-size_sorted : (ps : List (PlacedIn ChildRow)) → length (sorted_by is_above ps) ≡ length ps
+size_sorted : (ps : List (PlacedIn ChildRow)) → length (sorted_by has_lesser_parent ps) ≡ length ps
 size_sorted [] = refl
-size_sorted (p ∷ ps) = size_placed p (sorted_by is_above ps) ∙ ap suc (size_sorted ps)
+size_sorted (p ∷ ps) = size_placed p (sorted_by has_lesser_parent ps) ∙ ap suc (size_sorted ps)
 
 size_if : (o : Option ℕ) (row : ChildRow) (rest : List (PlacedIn ChildRow)) → length (placed_if o row rest) ≤ suc (length rest)
 size_if None row rest = omega arith

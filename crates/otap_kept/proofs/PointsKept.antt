@@ -23,7 +23,7 @@ use Rattle.otap_checks.specs.Reading.{part_rows_in}
 use Rattle.otap_points.specs.Found.{exemplars_in}
 use Rattle.otap_points.specs.Points.{exemplar_of}
 use Rattle.otap_metrics.proofs.MetricsTold.{exemplar_weighs, same_exemplar}
-use Rattle.otap_kept.specs.Accepted.{AreAccepted}
+use Rattle.otap_kept.specs.Clean.{AreCleanAndLight}
 use Rattle.otap_kept.specs.Rows.{former_ids, own_cells, parts_under}
 use Rattle.otap_kept.specs.Tables.{kept_parts}
 use Rattle.otap_kept.proofs.Levels.{level_again, level_apart, level_few, pairs_alike, pairs_weigh, parts_alike, parts_weigh}
@@ -64,7 +64,7 @@ module _ {C : Type 0} (point : List Cell → List Pair → List Exemplar → C) 
   abbrev pub points_before : Option ℕ → List C
   points_before = parts_before with_below own (part_rows_in (table_named points tables)) below_before
 
-  module _ (accepted : AreAccepted signal.Metrics tables) (points_listed : Contains (links_of signal.Metrics) (parts points table.Metrics 0))
+  module _ (accepted : AreCleanAndLight signal.Metrics tables) (points_listed : Contains (links_of signal.Metrics) (parts points table.Metrics 0))
       (exemplars_listed : Contains (links_of signal.Metrics) (parts exemplars points 0)) (points_part : IsPart points) (exemplars_part : IsPart exemplars) where
     points_apart : AreApart (former_ids kept_points)
     points_apart = level_apart signal.Metrics tables accepted (parts points table.Metrics 0) points_listed refl points_part own

@@ -26,7 +26,7 @@ use Rattle.otap_checks.specs.Given.{AreGiven}
 use Rattle.otap_checks.specs.Links.{links_of}
 use Rattle.otap_checks.specs.Reading.{part_rows_in}
 use Rattle.otap_kept.specs.declared.whose.Whose.{Whose}
-use Rattle.otap_kept.specs.Accepted.{AreAccepted}
+use Rattle.otap_kept.specs.Clean.{AreCleanAndLight}
 use Rattle.otap_kept.specs.Kept.{KeptIds, is_kept, is_ordered, kept, kept_below, kept_ids, kept_of, kept_rows, known_after, links_below, main_ids, parent_ids, table_below, tables_below}
 use Rattle.otap_kept.specs.Rows.{parts_under, renewed, under}
 use Rattle.otap_kept.specs.Tables.{kept_attributes, kept_main, kept_parts}
@@ -52,7 +52,7 @@ profile : (kind : Kind) (rows : List (List Cell)) → AllByRecursion (IsRow (col
 profile kind rows fit given =
     is_profile_table kind rows (All-from_recursion (IsRow (columns_of kind)) rows fit) (λ column id. let here = given column id in (here.ids, here.are))
 
-module _ (of : Signal) (tables : List Table) (rows : List MainRow) (accepted : AreAccepted of tables) (are : All IsTable tables) where
+module _ (of : Signal) (tables : List Table) (rows : List MainRow) (accepted : AreCleanAndLight of tables) (are : All IsTable tables) where
   abbrev all : List Table
   all = kept_of of rows tables
 
@@ -91,7 +91,8 @@ module _ (of : Signal) (tables : List Table) (rows : List MainRow) (accepted : A
       (all_below (known_after tables ids link.kind known) links (sound_after of tables rows accepted link known sound is.0 (named.0 ∙ first)) is.1 both.1
       (pass of tables rows accepted t link.kind rest links kind both.0 named.1))
 
-pub all_profile : (of : Signal) (by : Whose) (pair : Pair) (tables : List Table) → AreAccepted of tables → All IsTable tables → is_ordered of by pair tables ≡ true
+pub all_profile : (of : Signal) (by : Whose) (pair : Pair) (tables : List Table) → AreCleanAndLight of tables → All IsTable tables
+    → is_ordered of by pair tables ≡ true
     → All IsProfileTable (kept of by pair tables)
 unfolding kept kept_rows kept_main
 all_profile of by pair tables accepted are ordered =

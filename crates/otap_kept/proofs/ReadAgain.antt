@@ -16,7 +16,7 @@ use Rattle.otap_attrs.specs.Index.{attribute_rows_in}
 use Rattle.otap_attrs.proofs.TablePairs.{ids_are}
 use Rattle.otap_checks.specs.Reading.{main_rows_in, part_rows_in}
 use Rattle.otap_kept.specs.declared.whose.Whose.{Whose}
-use Rattle.otap_kept.specs.Accepted.{AreAccepted}
+use Rattle.otap_kept.specs.Clean.{AreCleanAndLight}
 use Rattle.otap_kept.specs.Kept.{is_ordered, kept, kept_rows}
 use Rattle.otap_kept.specs.Rows.{own_cells, parts_under, renewed, under}
 use Rattle.otap_kept.specs.Tables.{kept_attributes, kept_parts}
@@ -25,7 +25,7 @@ use Rattle.otap_kept.proofs.KeptRows.{main_again}
 use Rattle.otap_kept.proofs.MainTables.{under_low}
 use Rattle.otap_kept.proofs.PartTables.{kept_parts_again, parts_few, parts_low, parts_rising}
 
-pub main_read : (of : Signal) (by : Whose) (pair : Pair) (tables : List Table) → AreAccepted of tables → is_ordered of by pair tables ≡ true
+pub main_read : (of : Signal) (by : Whose) (pair : Pair) (tables : List Table) → AreCleanAndLight of tables → is_ordered of by pair tables ≡ true
     → main_rows_in (table_named (main_of of) (kept of by pair tables)) ≡ renewed (kept_rows of by pair tables)
 unfolding kept
 main_read of by pair tables accepted ordered = main_again of by pair tables accepted ordered

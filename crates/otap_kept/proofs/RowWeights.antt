@@ -19,7 +19,7 @@ use Rattle.otap_groups.specs.Stored.{id_cell, stored_part, stored_parts}
 use Rattle.otap_groups.specs.Weighing.{cells_weight}
 use Rattle.otap_attrs.specs.Sorting.{coded_after, coded_rows, is_before, parent_in, placed_by, sorted_by, sorted_rows, stored_parent}
 use Rattle.otap_kept.specs.Numbers.{new_number}
-use Rattle.otap_kept.specs.Rows.{is_above, own_cells, parts_under, placed_if, under}
+use Rattle.otap_kept.specs.Rows.{has_lesser_parent, own_cells, parts_under, placed_if, under}
 use Rattle.otap_kept.specs.Tables.{kept_attributes, kept_parts, row_of_placed}
 
 abbrev after_first : List Cell → ℕ
@@ -107,7 +107,7 @@ under_weighs ids (row ∷ rows) =
 
 pub parts_under_weigh : (ids : List (Option ℕ)) (rows : List ChildRow) → sum_by of_placed (parts_under ids rows) ≤ sum_by of_child rows
 unfolding parts_under
-parts_under_weigh ids rows = omega (arith, sorted_weighs of_placed is_above (under ids rows), under_weighs ids rows)
+parts_under_weigh ids rows = omega (arith, sorted_weighs of_placed has_lesser_parent (under ids rows), under_weighs ids rows)
 
 -- ---- and these are the rows of a table, without the ids in front
 

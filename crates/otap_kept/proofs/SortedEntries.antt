@@ -11,7 +11,7 @@ use Rattle.std.proofs.lemmas.List.Sorted.{ranks_by}
 use Rattle.otap_groups.specs.declared.entry.ChildEntry.{ChildEntry}
 use Rattle.otap_attrs.specs.Sorting.{sorted_by}
 use Rattle.otap_attrs.proofs.StableSort.{stable_sort}
-use Rattle.otap_kept.specs.Numbering.{is_entry_above}
+use Rattle.otap_kept.specs.Numbering.{entry_has_lesser_parent}
 
 abbrev by_parent : ChildEntry → ChildEntry → Bool
 by_parent a b = is_lt (nat_cmp a.parent b.parent)
@@ -30,6 +30,6 @@ sorted_from xs up k d low within =
     not_before (slice_index_or xs k d).parent (slice_index_or xs (k + 1) d).parent (up k (k + 1) d (omega arith) within)
 
 pub entries_sorted : (xs ys : List ChildEntry) → IsNonDecreasingBy (λ (e : ChildEntry). e.parent) ys → IsStableByKey (λ (e : ChildEntry). e.parent) nat_cmp xs ys
-    → ys ≡ sorted_by is_entry_above xs
+    → ys ≡ sorted_by entry_has_lesser_parent xs
 entries_sorted xs ys up stable =
     stable_sort by_parent in_order xs ys (sorted_from ys up) stable ∙ (λ i. sorted_by (λ (a b : ChildEntry). before_is a.parent b.parent i) xs)

@@ -27,8 +27,8 @@ use Rattle.otap_spans.specs.Records.{event_of, link_of, span_of}
 use Rattle.otap_spans.specs.Requests.{events_in, links_in, regrouped_spans, span_in}
 use Rattle.otap_kept.specs.declared.whose.Whose.{Whose}
 use Rattle.otap_kept.specs.declared.whose.Whose.TheVariants as whose
-use Rattle.otap_kept.specs.Accepted.{AreAccepted}
-use Rattle.otap_kept.specs.Filtered.{IsNoHeavier, TellsFilter, entry_has}
+use Rattle.otap_kept.specs.Clean.{AreCleanAndLight}
+use Rattle.otap_kept.specs.Filtered.{IsNoHeavier, MeansFilter, entry_has}
 use Rattle.otap_kept.specs.Kept.{is_kept, is_ordered, kept, kept_of, kept_rows}
 use Rattle.otap_kept.specs.Numbers.{first_ids}
 use Rattle.otap_kept.specs.Rows.{former_ids, own_cells, own_ids, parts_under, resource_ids, scope_ids}
@@ -165,7 +165,7 @@ module _ (by : Whose) (pair : Pair) (tables : List Table) where
   unfolding links_of
   links_listed = (5, omega arith, refl)
 
-  module _ (accepted : AreAccepted signal.Traces tables) (ordered : is_ordered signal.Traces by pair tables ≡ true) where
+  module _ (accepted : AreCleanAndLight signal.Traces tables) (ordered : is_ordered signal.Traces by pair tables ≡ true) where
     own_apart : AreApart own
     unfolding links_of kept_rows
     own_apart = rows_apart signal.Traces tables accepted (items table.Spans) (0, omega arith, refl) refl spans_are_main.id (is_kept signal.Traces by pair tables)
@@ -219,7 +219,7 @@ module _ (by : Whose) (pair : Pair) (tables : List Table) where
         (pairs_in (table_named table.LinkAttrs all)) links_again id SameLink
         (λ id cells. same_link cells _ _ (pairs_alike table.LinkAttrs (former_ids links) tables all refl few_links link_pairs_named id)))
 
-    pub spans_tell : TellsFilter signal.Traces by pair tables
+    pub spans_tell : MeansFilter signal.Traces by pair tables
     unfolding kept regrouped_spans
     spans_tell = tells_filter table.Spans with_below below_in before tables all rows kept_as SameSpan span (λ a b same. same) same (entry_has by pair) are
 

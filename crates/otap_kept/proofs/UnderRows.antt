@@ -22,9 +22,9 @@ use Rattle.otap_attrs.specs.Sorting.{coded_rows, sorted_by, sorted_rows}
 use Rattle.otap_attrs.proofs.SortedBy.{map_sorted}
 use Rattle.otap_attrs.proofs.TablePairs.{ids_are, ids_long}
 use Rattle.otap_checks.specs.Reading.{part_rows_in}
-use Rattle.otap_kept.specs.Numbering.{is_entry_above}
+use Rattle.otap_kept.specs.Numbering.{entry_has_lesser_parent}
 use Rattle.otap_kept.specs.Numbers.{new_number}
-use Rattle.otap_kept.specs.Rows.{former_ids, is_above, own_cells, parts_under, placed_if, under}
+use Rattle.otap_kept.specs.Rows.{former_ids, has_lesser_parent, own_cells, parts_under, placed_if, under}
 use Rattle.otap_kept.specs.Tables.{kept_attributes, kept_parts, row_of_placed}
 use Rattle.otap_kept.specs.Writing.{part_at, with_number, with_numbers}
 use Rattle.otap_kept.proofs.Each.{each_sorted}
@@ -86,7 +86,7 @@ module _ (kept : List (Option ℕ)) where
     as_part e = placed_at e.parent (child_row_at ids parents (map (drop 2) t.rows) e.place)
 
     abbrev pub entries_kept : List ChildEntry
-    entries_kept = sorted_by is_entry_above (entries_from 0 (map (new_number kept) parents))
+    entries_kept = sorted_by entry_has_lesser_parent (entries_from 0 (map (new_number kept) parents))
 
     long : length parents ≡ length (map (drop 2) t.rows)
     long = ids_long t 1 parents above ∙ sym (length-map t.rows (drop 2))
@@ -102,9 +102,9 @@ module _ (kept : List (Option ℕ)) where
     pub parts_are : map as_part entries_kept ≡ parts_under kept (part_rows_in t)
     unfolding parts_under child_rows
     parts_are =
-        map_sorted (λ (e : ChildEntry). Unit {0}) as_part is_entry_above is_above (λ x y a b. refl) (entries_from 0 (map (new_number kept) parents))
+        map_sorted (λ (e : ChildEntry). Unit {0}) as_part entry_has_lesser_parent has_lesser_parent (λ x y a b. refl) (entries_from 0 (map (new_number kept) parents))
         (all (entries_from 0 (map (new_number kept) parents)))
-        ∙ ap (sorted_by is_above) (entries_under (child_row_at ids parents (map (drop 2) t.rows)) 0 parents
+        ∙ ap (sorted_by has_lesser_parent) (entries_under (child_row_at ids parents (map (drop 2) t.rows)) 0 parents
         (λ k place is within. let e : place ≡ k = omega (arith, is) in ap (λ n. get_or parents n None) e)
         ∙ ap (λ n. under kept (map (child_row_at ids parents (map (drop 2) t.rows)) (range_with_len 0 n))) long
         ∙ ap (under kept) rows_are)
@@ -147,7 +147,7 @@ module _ (kept : List (Option ℕ)) where
     pub places_there : All (λ (e : ChildEntry). e.place < length t.rows) entries_kept
     places_there =
         All-from_recursion (λ (e : ChildEntry). e.place < length t.rows) entries_kept
-        (each_sorted (λ (e : ChildEntry). e.place < length t.rows) is_entry_above (entries_from 0 (map (new_number kept) parents))
+        (each_sorted (λ (e : ChildEntry). e.place < length t.rows) entry_has_lesser_parent (entries_from 0 (map (new_number kept) parents))
         (entries_within 0 (length t.rows) (map (new_number kept) parents) (omega (arith, ids_long t 1 parents above, length-map parents (new_number kept)))))
 
 -- entries whose places are in a table without rows are none

@@ -5,7 +5,7 @@ use Rattle.otap_cells.specs.Tables.{Table, coding_in}
 use Rattle.otap_groups.specs.Rows.{MainRow, id_at}
 use Rattle.otap_kept.specs.Rows.{resource_ids, scope_ids}
 
--- AN ID COMES BACK: three rows have it, another one, and it again, in this order. Between them may be any others, and nulls
+-- AN ID COMES BACK: an id, another one, and the first one again are there in this order. Anything may be between them, nulls too
 pub record ComesBack (ids : List (Option ℕ)) : Type 0 where
   pub id : ℕ
   pub other : ℕ
@@ -23,6 +23,6 @@ pub record ComesBack (ids : List (Option ℕ)) : Type 0 where
 abbrev pub SomeIdComesBack : List MainRow → Type 0
 SomeIdComesBack rows = ComesBack (resource_ids rows) ⊎ ComesBack (scope_ids rows)
 
--- a main table stores the ids of its resources as they are, or those of its scopes; else it stores their distances
+-- a main table stores the ids of resources, or those of scopes, as they are and not as distances
 abbrev pub HasPlainIds : Table → Type 0
 HasPlainIds t = (coding_in t 1 ≡ coding.Plain) ⊎ (coding_in t 4 ≡ coding.Plain)

@@ -27,8 +27,8 @@ abbrev pub filtered : Whose → Pair → List (ItemEntry Item) → List (ItemEnt
 filtered by pair entries = filter (entry_has by pair) entries
 
 -- THE TELEMETRY OF WHAT IS KEPT is the filter of that of the tables
-abbrev pub TellsFilter : Signal → Whose → Pair → List Table → Type 0
-TellsFilter of by pair tables =
+abbrev pub MeansFilter : Signal → Whose → Pair → List Table → Type 0
+MeansFilter of by pair tables =
     SameTelemetry (filtered by pair (telemetry (request_in of tables))) (telemetry (request_in of (kept of by pair tables)))
 
 -- and it weighs no more

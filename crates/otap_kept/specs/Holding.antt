@@ -1,4 +1,4 @@
--- Which ids have a pair whose value is a text.
+-- Words of private contracts: which ids have a pair whose value is a text.
 use Rattle.std.specs.Prelude.{◌≡◌, ◌==◌, ◌&&◌, ℕ, suc, Bool, true, false, if◌then◌else◌, drop, List, [], ◌∷◌, Option, None, Some}
 use Rattle.std.specs.List.{list_any}
 use Rattle.std.specs.List.Sorted.{IsNonDecreasingBy}
@@ -6,7 +6,6 @@ use Rattle.std.specs.Str.{bytes_eq}
 use Rattle.otlp_model.specs.declared.request.Signal.{Signal}
 use Rattle.otlp_model.specs.declared.request.Signal.TheVariants as signal
 use Rattle.otlp_model.specs.declared.value.Pair.{Pair}
-use Rattle.otlp_model.specs.declared.value.Value as values
 use Rattle.otap_cells.specs.declared.payload.Kind.{Kind}
 use Rattle.otap_cells.specs.declared.payload.Kind.TheVariants as table
 use Rattle.otap_cells.specs.Cells.{Cell}
@@ -19,12 +18,6 @@ use Rattle.otap_kept.specs.declared.text_pair.TextPair.{TextPair}
 use Rattle.otap_kept.specs.declared.whose.Whose.{Whose}
 use Rattle.otap_kept.specs.declared.whose.Whose.TheVariants as whose
 use Rattle.otap_kept.specs.Kept.{has}
-
--- the pair
-abbrev pub text_pair : TextPair → Pair
-text_pair pair = record { key = pair.key.now; value = values.Str pair.text.now }
-
--- ---- words of private contracts
 
 -- the cells of an attribute say the pair, from the key on: the type is that of texts, and null is the empty text
 abbrev pub says : TextPair → List Cell → Bool
@@ -60,7 +53,7 @@ looked_at signal.Logs whose.Item = Some (table.LogAttrs, 0)
 looked_at signal.Traces whose.Item = Some (table.SpanAttrs, 0)
 looked_at signal.Metrics whose.Item = None
 
--- the indexes of the ids that are among numbers, counted from an index on
+-- the indexes of those ids that are among numbers; the first of all ids has the index n
 abbrev pub places_among : List ℕ → ℕ → List (Option ℕ) → List ℕ
 places_among numbers n [] = []
 places_among numbers n (id ∷ ids) =

@@ -44,34 +44,37 @@ is_kept of by pair tables row = has pair (pairs_looked_at of by tables row)
 unfoldable pub kept_rows : Signal → Whose → Pair → List Table → List MainRow
 kept_rows of by pair tables = filter (is_kept of by pair tables) (main_rows_in (table_named (main_of of) tables))
 
--- ---- what is below them, table by table; each one after that of its parents
+-- ---- what is below them, table by table; a table comes after that of its parents
 
--- of a column, the former ids that are kept, in their new order
+-- the former ids of what is kept, in their new order: those of one column of the table of a kind
 pub record KeptIds : Type 0 where
   pub kind : Kind
   pub column : ℕ
   pub ids : List (Option ℕ)
 
+-- those of a column, where they are known
 abbrev pub kept_ids : Kind → ℕ → List KeptIds → List (Option ℕ)
 kept_ids kind column [] = []
 kept_ids kind column (k ∷ known) = if is_kind k.kind kind && k.column == column then k.ids else kept_ids kind column known
 
--- the ids of the parents that a table names
+-- those of the parents that a table names
 abbrev pub parent_ids : Option Parents → List KeptIds → List (Option ℕ)
 parent_ids None known = []
 parent_ids (Some parents) known = kept_ids parents.of parents.at known
 
--- the table of a kind below these parents, and the ids that are known after it
+-- what is kept of the table of a kind, where these are the former ids of its parents
 abbrev pub table_below : List Table → List (Option ℕ) → Kind → Table
 table_below tables ids kind =
     if has_attributes kind then kept_attributes kind (under ids (attribute_rows_in (table_named kind tables)))
     else kept_parts kind (parts_under ids (part_rows_in (table_named kind tables)))
 
+-- the ids that are known after this table: of parts their own too, which tables below them name as parents
 abbrev pub known_after : List Table → List (Option ℕ) → Kind → List KeptIds → List KeptIds
 known_after tables ids kind known =
     if has_attributes kind then known
     else record { kind = kind; column = 0; ids = former_ids (parts_under ids (part_rows_in (table_named kind tables))) } ∷ known
 
+-- what is kept of the tables of these links, one after the other
 abbrev pub kept_below : List Table → List KeptIds → List TableLink → List Table
 kept_below tables known [] = []
 kept_below tables known (link ∷ links) =
@@ -94,7 +97,7 @@ links_below (link ∷ links) = links
 abbrev pub tables_below : Signal → List MainRow → List Table → List Table
 tables_below of rows tables = kept_below tables (main_ids (main_of of) rows) (links_below (links_of of))
 
--- of these main rows: their table, and of the tables below them those that have rows
+-- the tables of these main rows: their own, and of those below it the ones that have rows
 abbrev pub kept_of : Signal → List MainRow → List Table → List Table
 kept_of of rows tables = kept_main (main_of of) (renewed rows) ∷ flat_map where_rows (tables_below of rows tables)
 
@@ -104,7 +107,7 @@ kept of by pair tables = kept_of of (kept_rows of by pair tables) tables
 
 -- ---- whether they can be written
 
--- the numbers of resources, and of scopes, don't fall from a row to a later one
+-- from a row to a later one neither the numbers of resources fall nor those of scopes
 abbrev pub rise : List MainRow → Bool
 rise rows = rise_after 0 (resource_ids rows) && rise_after 0 (scope_ids rows)
 

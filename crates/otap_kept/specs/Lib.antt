@@ -1,7 +1,8 @@
 pub mod Numbers
 pub mod Rows
 pub mod Tables
-pub mod Accepted
+pub mod Clean
+pub mod Texts
 pub mod Kept
 pub mod Falling
 pub mod Filtered

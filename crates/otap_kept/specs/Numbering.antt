@@ -18,8 +18,8 @@ first_place [] = None
 first_place (entry ∷ entries) = Some entry.place
 
 -- one entry has a lesser parent than another
-abbrev pub is_entry_above : ChildEntry → ChildEntry → Bool
-is_entry_above a b = nat_lt a.parent b.parent
+abbrev pub entry_has_lesser_parent : ChildEntry → ChildEntry → Bool
+entry_has_lesser_parent a b = nat_lt a.parent b.parent
 
 -- ids without those that are null or equal to the one before; the last id that was taken is known
 abbrev pub runs_after : Option ℕ → List (Option ℕ) → List (Option ℕ)

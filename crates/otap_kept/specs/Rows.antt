@@ -18,7 +18,7 @@ resource_ids rows = map (λ row. row.resource_id) rows
 abbrev pub scope_ids : List MainRow → List (Option ℕ)
 scope_ids rows = map (λ row. row.scope_id) rows
 
--- a row with its own new number, and those of its resource and its scope
+-- a row with its new ids: n is its own, and those of its resource and its scope are their new numbers
 abbrev pub renew : List (Option ℕ) → List (Option ℕ) → ℕ → MainRow → MainRow
 renew resources scopes n row = record row {
   id = Some n;
@@ -34,23 +34,25 @@ renewed_from resources scopes n (row ∷ rows) = renew resources scopes n row �
 unfoldable pub renewed : List MainRow → List MainRow
 renewed rows = renewed_from (first_ids (resource_ids rows)) (first_ids (scope_ids rows)) 0 rows
 
--- ---- rows below, of which the ids of the parents that are kept are given in their new order
+-- ---- rows below, where `ids` are the former ids of the parents that are kept, in their new order
 
+-- a row in front of others, where its parent has a new number
 abbrev pub placed_if : Option ℕ → ChildRow → List (PlacedIn ChildRow) → List (PlacedIn ChildRow)
 placed_if None row rows = rows
 placed_if (Some parent) row rows = placed_at parent row ∷ rows
 
--- THE ROWS BELOW kept parents in their order, each beside the new number of its parent
+-- THE ROWS BELOW parents that are kept, in their order, each beside the new number of its parent
 abbrev pub under : List (Option ℕ) → List ChildRow → List (PlacedIn ChildRow)
 under ids [] = []
 under ids (row ∷ rows) = placed_if (new_number ids row.parent) row (under ids rows)
 
-abbrev pub is_above : PlacedIn ChildRow → PlacedIn ChildRow → Bool
-is_above a b = nat_lt a.parent b.parent
+-- one row has a lesser parent than another
+abbrev pub has_lesser_parent : PlacedIn ChildRow → PlacedIn ChildRow → Bool
+has_lesser_parent a b = nat_lt a.parent b.parent
 
--- THE PARTS BELOW kept parents: by the new number of the parent, those of one parent in their order
+-- THE PARTS BELOW parents that are kept: sorted by the new number of the parent, those of one parent in their order
 unfoldable pub parts_under : List (Option ℕ) → List ChildRow → List (PlacedIn ChildRow)
-parts_under ids rows = sorted_by is_above (under ids rows)
+parts_under ids rows = sorted_by has_lesser_parent (under ids rows)
 
 -- the former ids of parts that are kept, in their new order
 abbrev pub former_ids : List (PlacedIn ChildRow) → List (Option ℕ)

@@ -13,17 +13,17 @@ use Rattle.otap_kept.specs.Rows.{own_cells}
 
 -- ---- main tables
 
--- what an id is stored as after another one: the distance, and null where there is none
+-- what is stored for an id: its distance from the one before; null for null
 abbrev pub distance : ℕ → Option ℕ → Cell
 distance before None = null
 distance before (Some id) = id_cell (id - before)
 
--- the id that the next one is counted from
+-- the id from which the next distance is counted: null is passed over
 abbrev pub past_id : ℕ → Option ℕ → ℕ
 past_id before None = before
 past_id before (Some id) = id
 
--- a row as it is stored, after these ids
+-- what is stored for a row, where these are the ids before its own
 abbrev pub stored_row : ℕ → ℕ → ℕ → MainRow → List Cell
 stored_row own resource scope row =
     distance own row.id ∷ distance resource row.resource_id ∷ row.resource
@@ -45,6 +45,7 @@ kept_main kind rows = profile_table kind (stored_main 0 0 0 rows)
 unfoldable pub kept_parts : Kind → List (PlacedIn ChildRow) → Table
 kept_parts kind parts = profile_table kind (stored_parts (coding_at kind 1) (again_of kind) own_cells 0 0 None parts)
 
+-- a row of attributes with the new number of its parent in front
 abbrev pub row_of_placed : PlacedIn ChildRow → List Cell
 row_of_placed p = id_cell p.parent ∷ p.part.cells
 

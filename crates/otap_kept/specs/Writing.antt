@@ -31,7 +31,8 @@ with_numbers (n ∷ ns) (row ∷ rows) = with_number n row (with_numbers ns rows
 abbrev pub part_at : List (List Cell) → ChildEntry → PlacedIn ChildRow
 part_at rows entry = placed_at entry.parent (child_row None None (drop 2 (slice_index_or rows entry.place [])))
 
--- the main rows at these places: their ids are their numbers from n on, and those of these lists
+-- the main rows at these places. Their own ids are n and the numbers after it; those of their resources and scopes are in these
+-- lists, at the indexes of their own ids
 abbrev pub main_at : List (Option ℕ) → List (Option ℕ) → List (List Cell) → ℕ → ℕ → MainRow
 main_at resources scopes rows n place =
     main_row (Some n) (id_at resources n) (id_at scopes n) (slice_index_or rows place [])

@@ -15,7 +15,8 @@ use otap_cells::{Kind, LogicalTable, Rows, TableSet};
 use otap_checks::{ColumnIds, KnownIds, Parents, TableLink};
 use std::alloc::{AllocError, Global};
 
-/// Adds of the tables below those that have rows. The ids that are kept of the tables above are known. Takes n log n for n rows.
+/// Adds those of the tables below that have rows. `kept` has the former ids that are kept of the tables above. Takes n log n for n
+/// rows.
 pub(crate) fn add_below<R: Rows>(
     alloc: Global,
     tables: &mut Vec<(Kind, LogicalTable)>,

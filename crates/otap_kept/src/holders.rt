@@ -5,7 +5,8 @@ ghost use Rattle.otap_cells.specs.Continuing.{has_attributes};
 ghost use Rattle.otap_cells.specs.Named.{table_named};
 ghost use Rattle.otap_checks.specs.Known.{Knows};
 ghost use Rattle.otap_checks.specs.ValueDefects.{HasFineValues};
-ghost use Rattle.otap_kept.specs.Holding.{AreHolders, parents_saying, says, text_pair};
+ghost use Rattle.otap_kept.specs.Holding.{AreHolders, parents_saying, says};
+ghost use Rattle.otap_kept.specs.Texts.{text_pair};
 
 use crate::text_pair::TextPair;
 use otap_cells::{Kind, Rows, TableSet, attribute_at};

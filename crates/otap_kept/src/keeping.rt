@@ -2,9 +2,9 @@
 ghost use Rattle.std.specs.Prelude.{◌≡◌, true, false, IfNone, IfOk, IfSome};
 ghost use Rattle.otap_checks.specs.Known.{KnowsAll};
 ghost use Rattle.otap_checks.specs.Links.{links_of};
-ghost use Rattle.otap_kept.specs.Accepted.{AreAccepted};
-ghost use Rattle.otap_kept.specs.Holding.{text_pair};
+ghost use Rattle.otap_kept.specs.Clean.{AreCleanAndLight};
 ghost use Rattle.otap_kept.specs.Kept.{is_ordered, kept, links_below};
+ghost use Rattle.otap_kept.specs.Texts.{text_pair};
 
 use crate::below::add_below;
 use crate::main_ids::{main_ids, main_table};
@@ -25,7 +25,7 @@ pub fn kept<R: Rows>(
     pair: &TextPair<'_>,
     set: &TableSet<R>,
 ) -> Result<Option<TableSet<LogicalTable>>, AllocError>
-    requires { AreAccepted signal set.now }
+    requires { AreCleanAndLight signal set.now }
     ensures kept { IfOk result (λ found. IfSome found (λ made. made ≡ kept signal whose (text_pair pair.now) set.now)) }
     ensures ordered { IfOk result (λ found. IfSome found (λ made. is_ordered signal whose (text_pair pair.now) set.now ≡ true)) }
     ensures unordered { IfOk result (λ found. IfNone found (is_ordered signal whose (text_pair pair.now) set.now ≡ false)) }
@@ -49,7 +49,7 @@ fn read_ids<R: Rows>(
     signal: Signal,
     set: &TableSet<R>,
 ) -> Result<KnownIds, AllocError>
-    requires { AreAccepted signal set.now }
+    requires { AreCleanAndLight signal set.now }
     ensures { IfOk result (λ known. KnowsAll signal set.now known.columns.items) }
 {
     match known_ids(alloc, set, signal) {

@@ -4,9 +4,10 @@ ghost use Rattle.std.specs.List.Sorted.{IsNonDecreasingBy};
 ghost use Rattle.otap_cells.specs.Named.{table_named};
 ghost use Rattle.otap_cells.specs.Payload.{main_of};
 ghost use Rattle.otap_checks.specs.Known.{KnowsAll};
-ghost use Rattle.otap_kept.specs.Accepted.{AreAccepted};
-ghost use Rattle.otap_kept.specs.Holding.{is_among, looked_at, main_row_in, places_among, text_pair};
+ghost use Rattle.otap_kept.specs.Clean.{AreCleanAndLight};
+ghost use Rattle.otap_kept.specs.Holding.{is_among, looked_at, main_row_in, places_among};
 ghost use Rattle.otap_kept.specs.Kept.{kept_rows};
+ghost use Rattle.otap_kept.specs.Texts.{text_pair};
 
 use crate::holders::holders;
 use crate::text_pair::TextPair;
@@ -25,7 +26,7 @@ pub(crate) fn kept_rows<R: Rows>(
     set: &TableSet<R>,
     read: &KnownIds,
 ) -> Result<Vec<usize>, AllocError>
-    requires accepted { AreAccepted signal set.now }
+    requires accepted { AreCleanAndLight signal set.now }
     requires known { KnowsAll signal set.now read.now.columns.items }
     ensures rows { IfOk result (λ found. map (main_row_in (table_named (main_of signal) set.now)) found.items
         ≡ kept_rows signal whose (text_pair pair.now) set.now) }

@@ -57,7 +57,7 @@ pub(crate) fn write_main<R: Rows>(
     Ok(table)
 }
 
-/// What an id is stored as after another one.
+/// What is stored for an id: its distance from the one before.
 fn distance<'a>(before: u32, id: Option<u32>) -> CellView<'a>
     ensures value { seen result ≡ distance before id }
     ensures fits { IsCellOf (base.Id true) (seen result) }
@@ -68,7 +68,7 @@ fn distance<'a>(before: u32, id: Option<u32>) -> CellView<'a>
     }
 }
 
-/// The id that the next one is counted from.
+/// The id from which the next distance is counted.
 fn past_id(before: u32, id: Option<u32>) -> u32
     ensures { result ≡ past_id before id }
 {

@@ -5,7 +5,7 @@ ghost use Rattle.otap_groups.specs.declared.entry.ChildEntry.{ChildEntry};
 ghost use Rattle.otap_groups.specs.Found.{of_parent};
 ghost use Rattle.otap_groups.specs.Inside.{entries_from};
 ghost use Rattle.otap_attrs.specs.Sorting.{sorted_by};
-ghost use Rattle.otap_kept.specs.Numbering.{IsNumbering, first_place, is_entry_above};
+ghost use Rattle.otap_kept.specs.Numbering.{IsNumbering, entry_has_lesser_parent, first_place};
 ghost use Rattle.otap_kept.specs.Numbers.{new_number};
 
 use otap_groups::ChildEntry;
@@ -106,12 +106,12 @@ fn short(number: Option<usize>) -> Result<Option<u32>, AllocError>
     Ok(Some(number as u32))
 }
 
-/// The rows whose parents have new numbers, each with that number, by number; those of one parent in their order.
+/// The rows whose parents have new numbers, each with that number, and sorted by it; those of one parent stay in their order.
 pub(crate) fn rows_by_number(
     alloc: Global,
     numbers: &[Option<u32>],
 ) -> Result<Vec<ChildEntry>, AllocError>
-    ensures { IfOk result (λ entries. entries.items ≡ sorted_by is_entry_above (entries_from 0 numbers.now)) }
+    ensures { IfOk result (λ entries. entries.items ≡ sorted_by entry_has_lesser_parent (entries_from 0 numbers.now)) }
 {
     let mut entries = places_of(alloc, numbers)?;
     entries.sort_by_key(|entry| entry.parent)?;

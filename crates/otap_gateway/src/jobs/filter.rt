@@ -1,6 +1,7 @@
 //! `filter`: of each batch the message of what is kept of it.
 ghost use Rattle.std.specs.Prelude.{◌≡◌, [], IfOk};
-ghost use Rattle.otap_filter.specs.Filters.{StandsFor, answer_of, text_under};
+ghost use Rattle.otap_kept.specs.Texts.{text_under};
+ghost use Rattle.otap_filter.specs.Filters.{StandsFor, answer_of};
 ghost use Rattle.otap_gateway.specs.declared.jobs.command.Command.TheVariants as command;
 ghost use Rattle.otap_gateway.specs.Filtering.{answer_text, unordered_line};
 ghost use Rattle.otap_gateway.specs.FilteringSteps.{HasFilteredSo, HasShortMessage, text_in};

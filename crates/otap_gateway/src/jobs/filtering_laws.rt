@@ -3,7 +3,7 @@ ghost use Rattle.std.specs.Prelude.{◌≡◌, [], List, Option, ℕ};
 ghost use Rattle.lists.specs.EachAfter.{EachAfter};
 ghost use Rattle.otap_capture.specs.declared.frame.Damage.{Damage};
 ghost use Rattle.otap_capture.specs.Capture.{Frame, IsCapture};
-ghost use Rattle.otap_filter.specs.Filters.{text_under};
+ghost use Rattle.otap_kept.specs.Texts.{text_under};
 ghost use Rattle.otap_gateway.specs.declared.jobs.command.Command.TheVariants as command;
 ghost use Rattle.otap_gateway.specs.declared.jobs.owner.Owner.{Owner};
 ghost use Rattle.otap_gateway.specs.Commands.{ReplyOf};

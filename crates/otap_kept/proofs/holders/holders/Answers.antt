@@ -6,8 +6,9 @@ use Rattle.otap_cells.specs.GivenIds.{HasIds}
 use Rattle.otap_checks.specs.Known.{ids_named}
 use Rattle.otap_attrs.specs.Index.{pairs_in}
 use Rattle.otap_attrs.proofs.TablePairs.{attribute_id, ids_long}
-use Rattle.otap_kept.specs.Holding.{is_among, parents_saying, text_pair}
+use Rattle.otap_kept.specs.Holding.{is_among, parents_saying}
 use Rattle.otap_kept.specs.Kept.{has}
+use Rattle.otap_kept.specs.Texts.{text_pair}
 use Rattle.otap_kept.proofs.PairHolders.{IsFineRow, fine_rows, none_hold, saying_hold}
 use Rattle.otap_kept.proofs.holders.holders.Goals as goal
 

@@ -6,8 +6,8 @@ use Rattle.otap_attrs.specs.Tables.{beside_kind, where_rows}
 use Rattle.otap_checks.specs.declared.known.KnownIds.{KnownIds}
 use Rattle.otap_checks.specs.declared.links.TableLink.{TableLink}
 use Rattle.otap_checks.specs.Known.{Knows}
-use Rattle.otap_kept.specs.Holding.{text_pair}
 use Rattle.otap_kept.specs.Kept.{kept_below}
+use Rattle.otap_kept.specs.Texts.{text_pair}
 use Rattle.otap_kept.specs.Writing.{IsBelow, main_ids_kept, places_rise, seen_ids}
 use Rattle.otap_kept.proofs.KeptBatch.{ids_found, kept_sound, kept_tables, main_is, main_knows, main_within, order_is, pairs_kept, rows_few}
 use Rattle.otap_kept.proofs.KeptSets.{all_below, all_known}

@@ -3,7 +3,8 @@ use Rattle.otap_cells.specs.GivenIds.{ids_in}
 use Rattle.otap_cells.specs.Named.{table_named}
 use Rattle.otap_cells.specs.Payload.{main_of}
 use Rattle.otap_checks.specs.Known.{Knows, ids_named}
-use Rattle.otap_kept.specs.Holding.{looked_at, main_row_in, places_among, text_pair}
+use Rattle.otap_kept.specs.Holding.{looked_at, main_row_in, places_among}
+use Rattle.otap_kept.specs.Texts.{text_pair}
 use Rattle.otap_kept.proofs.KeptCall.{ids_read, read_long}
 use Rattle.otap_kept.proofs.KeptSets.{main_known}
 use Rattle.otap_kept.proofs.MainPlaces.{IsLookedAt, kept_at, kept_none, looked, looked_fine, places_within}

@@ -1,6 +1,6 @@
 use Rattle.std.proofs.Common.{refl, sym, ap, ◌∙◌}
 use Rattle.otap_cells.specs.Payload.{kinds_of}
-use Rattle.otap_filter.specs.Filters.{text_under}
+use Rattle.otap_kept.specs.Texts.{text_under}
 use Rattle.otap_filter.proofs.Fresh.{fresh, stands_new}
 use Rattle.otap_filter.proofs.filter.Filter.new.Goals as goal
 

@@ -2,12 +2,13 @@ use Rattle.std.proofs.Common.{refl, sym, ap, subst}
 use Rattle.std.specs.Prelude.{string_bytes}
 use Rattle.otap_capture.specs.Capture.{frame_of}
 use Rattle.otap_signals.specs.BySignal.{meaning_by}
+use Rattle.otap_kept.specs.Texts.{text_under}
 use Rattle.otap_consume.specs.declared.opened.Opened.{Opened}
 use Rattle.otap_consume.specs.Opening.{NextOutcome, Opens}
 use Rattle.otap_consume.specs.Outcomes as outcomes
 use Rattle.otap_consume.specs.Segments.{SegmentIn}
 use Rattle.otap_filter.specs.Filtering.{Refused, Reset}
-use Rattle.otap_filter.specs.Filters.{FilterIn, Filters, text_under}
+use Rattle.otap_filter.specs.Filters.{FilterIn, Filters}
 use Rattle.otap_filter.proofs.Steps.{frame_refused, frame_reset}
 use Rattle.otap_filter.proofs.filter.Filter.take.Goals as goal
 

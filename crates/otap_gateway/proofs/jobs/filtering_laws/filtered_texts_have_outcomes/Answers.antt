@@ -1,4 +1,4 @@
-use Rattle.otap_filter.specs.Filters.{text_under}
+use Rattle.otap_kept.specs.Texts.{text_under}
 use Rattle.otap_gateway.specs.Owners.{signal_of, whose_of}
 use Rattle.otap_gateway.proofs.AllReplies.{filter_back}
 use Rattle.otap_gateway.proofs.FilteredBytes.{received}

@@ -1,7 +1,7 @@
 use Rattle.otlp_model.specs.declared.request.Signal.{Signal}
 use Rattle.otlp_model.specs.declared.value.Pair.{Pair}
 use Rattle.otap_kept.specs.declared.whose.Whose.{Whose}
-use Rattle.otap_filter.specs.Filters.{text_under}
+use Rattle.otap_kept.specs.Texts.{text_under}
 use Rattle.otap_filter.proofs.FitSets.{KeptLaws}
 use Rattle.otap_gateway.specs.Owners.{signal_of, whose_of}
 use Rattle.otap_gateway.proofs.AllReplies.{filter_back}
