@@ -16,7 +16,7 @@ use crate::reading::Pairs;
 use crate::refusal::RowRefusal;
 use crate::values::check_value;
 use otap_cells::{Kind, Rows, read_ids};
-use otap_groups::{ChildEntry, Children, RowReader};
+use otap_groups::{ChildEntry, ChildIndex, RowReader};
 use otlp_model::{Items, PART_WEIGHT, Pair, add_capped};
 use std::alloc::{AllocError, Global};
 use std::marker::Model;
@@ -62,7 +62,7 @@ pub fn index_pairs<R: Rows>(
     }
     check_values(rows)?;
     let weights = weights_of(alloc, rows)?;
-    let found = Children::new(alloc, Pairs { rows }, &[], &ids)?;
+    let found = ChildIndex::new(alloc, Pairs { rows }, &[], &ids)?;
     Ok(PairIndex {
         entries: found.entries,
         weights,

@@ -1,11 +1,11 @@
 -- The ids of a table's columns as lists, and what they give.
-use Rattle.std.proofs.Common.{◌≡◌, ◌∙◌, ℕ, ◌<◌, true, List, [], map, length, Option, inl, inr, refl, sym, ap, subst, arith}
+use Rattle.std.proofs.Common.{◌≡◌, ◌∙◌, ℕ, ◌<◌, List, [], map, length, Option, inl, inr, refl, sym, ap, subst, arith}
 use Rattle.std.specs.Prelude.{Contains}
 use Rattle.std.specs.List.{range_with_len}
 use Rattle.std.proofs.lemmas.List.FromFn.{get_or-map-range_with_len, length-map-range_with_len}
 use Rattle.std.proofs.lemmas.Bool.{false≢true, cases_Bool}
 use Rattle.otlp_model.specs.declared.request.Signal.{Signal}
-use Rattle.otap_cells.specs.Cells.{Cell, null}
+use Rattle.otap_cells.specs.Cells.{Cell}
 use Rattle.otap_cells.specs.declared.ids.IdFault.TheVariants as fault
 use Rattle.otap_cells.specs.Ids.{fits_after, undone_after}
 use Rattle.otap_cells.specs.Named.{table_named}

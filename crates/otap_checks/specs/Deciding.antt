@@ -5,10 +5,11 @@ use Rattle.otap_cells.specs.declared.payload.Kind.{Kind}
 use Rattle.otap_cells.specs.Cells.{bytes_in}
 use Rattle.otap_cells.specs.Named.{table_named}
 use Rattle.otap_cells.specs.Tables.{Table, cell_in}
+use Rattle.otap_checks.specs.Refusing.{IsClean}
 
 -- it is decided whether NOTHING IS WRONG with the table of any kind, or something is with one
 abbrev pub CleanOrWrong : (Kind → RowRefusal → Type 0) → Type 0
-CleanOrWrong Wrong = ((kind : Kind) (why : RowRefusal) → Wrong kind why → ⊥) ⊎ ((kind : Kind) × (why : RowRefusal) × Wrong kind why)
+CleanOrWrong Wrong = IsClean Wrong ⊎ ((kind : Kind) × (why : RowRefusal) × Wrong kind why)
 
 -- each cell of bytes holds numbers below 256
 abbrev pub HasByteCells : Table → Type 0

@@ -15,6 +15,10 @@ abbrev pub refused_as : Kind → RowRefusal → CheckRefusal
 refused_as kind (why.Memory error) = check.Memory error
 refused_as kind refusal = check.Defect kind refusal
 
+-- nothing of this is wrong
+abbrev pub IsClean : (Kind → RowRefusal → Type 0) → Type 0
+IsClean Wrong = (kind : Kind) (why : RowRefusal) → Wrong kind why → ⊥
+
 -- nothing is wrong with rows
 abbrev pub Nothing : Kind → RowRefusal → Type 0
 Nothing kind wrong = ⊥

@@ -14,7 +14,7 @@ use Rattle.otap_attrs.specs.Index.{pairs_in}
 use Rattle.otap_checks.specs.declared.regrouping.RegroupRefusal.{RegroupRefusal}
 use Rattle.otap_checks.specs.declared.regrouping.RegroupRefusal.TheVariants as regroup
 use Rattle.otap_checks.specs.Reading.{main_rows_in}
-use Rattle.otap_checks.specs.Refusing.{RefusesCheck}
+use Rattle.otap_checks.specs.Refusing.{IsClean, RefusesCheck}
 
 -- THE REQUEST that the tables of a signal make: the rows of the main one, each with its own cells and what the tables below have for its id
 abbrev pub regrouped_in : {I : Type 0} → Kind → (List Table → Option ℕ → List Cell → I) → List Table → List (ResourceGroup I)
@@ -26,7 +26,7 @@ regrouped_in main item tables = regrouped
 
 -- nothing is wrong with the rows, and the request weighs more than the limit
 pub record IsTooHeavy (Wrong : Kind → RowRefusal → Type 0) (weight : ℕ) : Type 0 where
-  pub clean : (kind : Kind) (why : RowRefusal) → Wrong kind why → ⊥
+  pub clean : IsClean Wrong
   pub heavy : weight_limit < weight
 
 -- WHY TABLES MAKE NO REQUEST, where `Wrong` says what is wrong with their rows, and their request has this weight

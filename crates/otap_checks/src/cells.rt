@@ -1,20 +1,17 @@
 //! What is wrong with the cells of a batch, rule by rule.
 ghost use Rattle.std.specs.Prelude.{◌≡◌, true, false, All, IfErr, IfOk, OnOk};
 ghost use Rattle.otap_attrs.specs.declared.refusal.CheckRefusal.TheVariants as check;
-ghost use Rattle.otap_attrs.specs.declared.refusal.RowRefusal.{RowRefusal};
 ghost use Rattle.otap_cells.specs.Named.{table_named};
-ghost use Rattle.otap_cells.specs.declared.payload.Kind.{Kind};
 ghost use Rattle.otap_groups.specs.Kinds.{IsMain};
-ghost use Rattle.otap_checks.specs.Given.{AreGiven};
 ghost use Rattle.otap_checks.specs.IdDefects.{IdDefect};
 ghost use Rattle.otap_checks.specs.Known.{Knows, KnowsAll};
 ghost use Rattle.otap_checks.specs.Reading.{Disagrees};
-ghost use Rattle.otap_checks.specs.Refusing.{RefusesCheck};
+ghost use Rattle.otap_checks.specs.Refusing.{IsClean, RefusesCheck};
 ghost use Rattle.otap_checks.specs.RowDefects.{RowDefect};
 ghost use Rattle.otap_checks.specs.Ruled.{AreGivenFor, BreaksOne, BreaksRule, FitsRule, Keeps};
 
 use crate::checking::known_ids;
-use crate::fronts::{disagrees, front_of};
+use crate::fronts::front_of;
 use crate::known::KnownIds;
 use crate::measured::{has_two_values, has_uneven_lists};
 use crate::rules::{Asks, CellRule, rules_of};
@@ -31,8 +28,8 @@ pub fn checked_ids<R: Rows>(
     set: &TableSet<R>,
     signal: Signal,
 ) -> Result<KnownIds, CheckRefusal>
-    ensures clean { OnOk result ((kind : Kind) (why : RowRefusal) → RowDefect signal set.now kind why → ⊥) }
-    ensures known { IfOk result (λ known. KnowsAll signal set.now known.columns.items) }
+    ensures clean { OnOk result (IsClean (RowDefect signal set.now)) }
+    ensures known { IfOk result (λ known. KnowsAll signal set.now known) }
     ensures refused { IfErr result (RefusesCheck (RowDefect signal set.now)) }
 {
     let known = known_ids(alloc, set, signal)?;
@@ -47,9 +44,9 @@ pub fn check_cells<R: Rows>(
     known: &KnownIds,
     signal: Signal,
 ) -> Result<(), CheckRefusal>
-    requires ids { (kind : Kind) (why : RowRefusal) → IdDefect signal set.now kind why → ⊥ }
-    requires known { KnowsAll signal set.now known.now.columns.items }
-    ensures clean { OnOk result ((kind : Kind) (why : RowRefusal) → RowDefect signal set.now kind why → ⊥) }
+    requires ids { IsClean (IdDefect signal set.now) }
+    requires known { KnowsAll signal set.now known.now }
+    ensures clean { OnOk result (IsClean (RowDefect signal set.now)) }
     ensures refused { IfErr result (RefusesCheck (RowDefect signal set.now)) }
 {
     match check_rules(alloc, set, known, rules_of(signal)) {
@@ -65,7 +62,7 @@ fn check_rules<R: Rows>(
     rules: &[CellRule],
 ) -> Result<(), CheckRefusal>
     requires fit { All FitsRule rules.now }
-    requires given { All (AreGivenFor set.now known.now.columns.items) rules.now }
+    requires given { All (AreGivenFor set.now known.now) rules.now }
     ensures ok { OnOk result (All (Keeps set.now) rules.now) }
     ensures err { IfErr result (RefusesCheck (BreaksOne set.now rules.now)) }
 {
@@ -82,7 +79,7 @@ fn check_rule<R: Rows>(
     rule: &CellRule,
 ) -> Result<(), CheckRefusal>
     requires fit { FitsRule rule.now }
-    requires given { AreGivenFor set.now known.now.columns.items rule.now }
+    requires given { AreGivenFor set.now known.now rule.now }
     ensures ok { OnOk result (Keeps set.now rule.now) }
     ensures err { IfErr result (RefusesCheck (BreaksRule set.now rule.now)) }
 {
@@ -131,8 +128,7 @@ fn differ<R: Rows>(
     kind: Kind,
 ) -> Result<bool, AllocError>
     requires main { IsMain kind }
-    requires given { AreGiven (table_named kind set.now) }
-    requires known { Knows (table_named kind set.now) kind known.now.columns.items }
+    requires known { Knows (table_named kind set.now) kind known.now }
     ensures yes { IfOk result (λ found. found ≡ true → Disagrees (table_named kind set.now)) }
     ensures no { IfOk result (λ found. found ≡ false → Disagrees (table_named kind set.now) → ⊥) }
 {
@@ -140,6 +136,6 @@ fn differ<R: Rows>(
         return Ok(false);
     };
     let front = front_of(rows, known);
-    let found = disagrees(alloc, &front)?;
+    let found = front.disagrees(alloc)?;
     Ok(found)
 }

@@ -1,13 +1,11 @@
 //! What is wrong with the ids of a batch.
 ghost use Rattle.std.specs.Prelude.{◌≡◌, true, false, All, IfErr, IfOk, OnOk};
-ghost use Rattle.otap_cells.specs.declared.payload.Kind.{Kind};
 ghost use Rattle.otap_attrs.specs.declared.refusal.RowRefusal.{RowRefusal};
 ghost use Rattle.otap_checks.specs.declared.links.TableLink.{TableLink};
 ghost use Rattle.otap_checks.specs.IdDefects.{IdDefect};
 ghost use Rattle.otap_checks.specs.Inside.{IsLost, KnownFault, KnownFaults, KnownWrong, OwnTwice};
-ghost use Rattle.otap_checks.specs.Refusing.{refused_as, RefusesCheck};
+ghost use Rattle.otap_checks.specs.Refusing.{IsClean, refused_as, RefusesCheck};
 ghost use Rattle.otap_checks.specs.Known.{KnowsAll};
-ghost use Rattle.otap_checks.specs.Links.{links_of};
 
 use crate::known::{KnownIds, read_tables};
 use crate::links::{TableLink, links_of};
@@ -23,8 +21,8 @@ pub fn known_ids<R: Rows>(
     set: &TableSet<R>,
     signal: Signal,
 ) -> Result<KnownIds, CheckRefusal>
-    ensures clean { OnOk result ((kind : Kind) (why : RowRefusal) → IdDefect signal set.now kind why → ⊥) }
-    ensures known { IfOk result (λ known. KnowsAll signal set.now known.columns.items) }
+    ensures clean { OnOk result (IsClean (IdDefect signal set.now)) }
+    ensures known { IfOk result (λ known. KnowsAll signal set.now known) }
     ensures err { IfErr result (RefusesCheck (IdDefect signal set.now)) }
 {
     let links = links_of(signal);
@@ -36,8 +34,8 @@ pub fn known_ids<R: Rows>(
 }
 
 fn check_links(alloc: Global, known: &KnownIds, links: &[TableLink]) -> Result<(), CheckRefusal>
-    ensures ok { OnOk result (All (λ (link : TableLink). (why : RowRefusal) → KnownFault known.now.columns.items link why → ⊥) links.now) }
-    ensures err { IfErr result (RefusesCheck (KnownFaults known.now.columns.items links.now)) }
+    ensures ok { OnOk result (All (λ (link : TableLink). (why : RowRefusal) → KnownFault known.now link why → ⊥) links.now) }
+    ensures err { IfErr result (RefusesCheck (KnownFaults known.now links.now)) }
 {
     'links: for place in 0..links.len() {
         check_link(alloc, known, &links[place])?;
@@ -46,8 +44,8 @@ fn check_links(alloc: Global, known: &KnownIds, links: &[TableLink]) -> Result<(
 }
 
 fn check_link(alloc: Global, known: &KnownIds, link: &TableLink) -> Result<(), CheckRefusal>
-    ensures ok { OnOk result ((why : RowRefusal) → KnownFault known.now.columns.items link.now why → ⊥) }
-    ensures err { IfErr result (RefusesCheck (KnownWrong known.now.columns.items link.now)) }
+    ensures ok { OnOk result ((why : RowRefusal) → KnownFault known.now link.now why → ⊥) }
+    ensures err { IfErr result (RefusesCheck (KnownWrong known.now link.now)) }
 {
     if has_id_twice(alloc, known, link)? {
         return Err(CheckRefusal::Defect {
@@ -66,8 +64,8 @@ fn check_link(alloc: Global, known: &KnownIds, link: &TableLink) -> Result<(), C
 
 /// Whether two rows have one id.
 fn has_id_twice(alloc: Global, known: &KnownIds, link: &TableLink) -> Result<bool, AllocError>
-    ensures yes { IfOk result (λ found. found ≡ true → OwnTwice known.now.columns.items link.now link.now.own) }
-    ensures no { IfOk result (λ found. found ≡ false → OwnTwice known.now.columns.items link.now link.now.own → ⊥) }
+    ensures yes { IfOk result (λ found. found ≡ true → OwnTwice known.now link.now link.now.own) }
+    ensures no { IfOk result (λ found. found ≡ false → OwnTwice known.now link.now link.now.own → ⊥) }
 {
     let Some(column) = link.own else {
         return Ok(false);
@@ -78,8 +76,8 @@ fn has_id_twice(alloc: Global, known: &KnownIds, link: &TableLink) -> Result<boo
 
 /// Whether a row has a parent that isn't there.
 fn has_lost_row(alloc: Global, known: &KnownIds, link: &TableLink) -> Result<bool, AllocError>
-    ensures yes { IfOk result (λ found. found ≡ true → IsLost known.now.columns.items link.now link.now.parents) }
-    ensures no { IfOk result (λ found. found ≡ false → IsLost known.now.columns.items link.now link.now.parents → ⊥) }
+    ensures yes { IfOk result (λ found. found ≡ true → IsLost known.now link.now link.now.parents) }
+    ensures no { IfOk result (λ found. found ≡ false → IsLost known.now link.now link.now.parents → ⊥) }
 {
     let Some(above) = link.parents else {
         return Ok(false);

@@ -1,6 +1,7 @@
 //! The parts of parents, found in the table of a kind.
-ghost use Rattle.std.specs.Prelude.{◌≡◌, ℕ, Option, drop, map, IfOk};
+ghost use Rattle.std.specs.Prelude.{◌≡◌, drop, map, IfOk};
 ghost use Rattle.otap_cells.specs.Named.{table_named};
+ghost use Rattle.otap_groups.specs.Beside.{Finds};
 ghost use Rattle.otap_groups.specs.Children.{children};
 ghost use Rattle.otap_groups.specs.Kinds.{IsPart};
 ghost use Rattle.otap_checks.specs.Known.{Knows};
@@ -8,7 +9,7 @@ ghost use Rattle.otap_checks.specs.Reading.{part_rows_in};
 
 use crate::known::KnownIds;
 use otap_cells::{Kind, Rows, TableSet};
-use otap_groups::{Children, Lookup, RowReader};
+use otap_groups::{Children, RowReader};
 use std::alloc::{AllocError, Global};
 
 /// The rows that a reader reads, which are those of the table of a kind, found by their parents. Takes n log n for n rows, and
@@ -21,10 +22,9 @@ pub fn index_rows<'a, R: Rows, S: RowReader>(
     reader: S,
 ) -> Result<Children<'a, S>, AllocError>
     requires part { IsPart kind }
-    requires known { Knows (table_named kind set.now) kind known.now.columns.items }
+    requires known { Knows (table_named kind set.now) kind known.now }
     requires rows { S.cells reader ≡ map (drop 2) (table_named kind set.now).rows }
-    ensures { IfOk result (λ made. (parent : Option ℕ) → ⟦<Children<'a, S> as Lookup>⟧.finds made parent
-        ≡ children (S.item reader) (part_rows_in (table_named kind set.now)) parent) }
+    ensures { IfOk result (Finds (children (S.item reader) (part_rows_in (table_named kind set.now)))) }
 {
     let ids = known.of(kind, 0);
     let parents = known.of(kind, 1);

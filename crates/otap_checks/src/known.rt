@@ -12,6 +12,7 @@ use crate::links::TableLink;
 use otap_attrs::{CheckRefusal, RowRefusal};
 use otap_cells::{Kind, Rows, TableSet, base_of, columns, read_ids};
 use std::alloc::{AllocError, Global};
+use std::marker::Model;
 
 /// The ids of a column of a table.
 #[derive(Debug, Drop)]
@@ -21,16 +22,25 @@ pub struct ColumnIds {
     pub ids: Vec<Option<u32>>,
 }
 
-/// The ids of the tables of a batch, column by column.
+/// The ids of the tables of a batch. Contracts see them as a list of columns.
 #[derive(Debug, Drop)]
 pub struct KnownIds {
     pub columns: Vec<ColumnIds>,
 }
 
+impl Model for KnownIds {
+    ghost use Rattle.std.specs.Prelude.{List};
+    ghost use Rattle.otap_checks.specs.declared.known.ColumnIds.{ColumnIds};
+
+    ghost Value = { List ColumnIds };
+
+    ghost view = { λ a. a.columns.items };
+}
+
 impl KnownIds {
     /// The ids of a column of a table; none where they aren't known.
     pub fn of(&self, kind: Kind, column: u32) -> &[Option<u32>]
-        ensures { result.now ≡ ids_named kind column self.now.columns.items }
+        ensures { result.now ≡ ids_named kind column self.now }
     {
         find(&self.columns, kind, column)
     }
@@ -54,8 +64,8 @@ pub(crate) fn read_tables<R: Rows>(
     set: &TableSet<R>,
     links: &[TableLink],
 ) -> Result<KnownIds, CheckRefusal>
-    ensures right { IfOk result (λ known. All (IsRight set.now) known.columns.items) }
-    ensures all { IfOk result (λ known. All (λ (link : TableLink). HasColumns link.kind known.columns.items) links.now) }
+    ensures right { IfOk result (λ known. All (IsRight set.now) known) }
+    ensures all { IfOk result (λ known. All (λ (link : TableLink). HasColumns link.kind known) links.now) }
     ensures err { IfErr result (RefusesCheck (ColumnsWrong set.now links.now)) }
 {
     let mut known = Vec::new(alloc);

@@ -18,7 +18,7 @@ pub mod written_laws;
 
 pub use cells::{check_cells, checked_ids};
 pub use checking::{known_ids, refused};
-pub use fronts::{disagrees, front_of};
+pub use fronts::front_of;
 pub use indexing::index_rows;
 pub use known::{ColumnIds, KnownIds};
 pub use links::{Parents, TableLink, links_of};

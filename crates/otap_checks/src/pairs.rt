@@ -1,14 +1,15 @@
 //! The pairs of parents, found in the tables of attributes.
-ghost use Rattle.std.specs.Prelude.{◌≡◌, ℕ, Option, true, IfOk};
+ghost use Rattle.std.specs.Prelude.{◌≡◌, true, IfOk};
 ghost use Rattle.otap_attrs.specs.Index.{pairs_in};
 ghost use Rattle.otap_cells.specs.Continuing.{has_attributes};
 ghost use Rattle.otap_cells.specs.Named.{table_named};
+ghost use Rattle.otap_groups.specs.Beside.{FindsIf};
 ghost use Rattle.otap_checks.specs.Known.{Knows};
 
 use crate::known::KnownIds;
 use otap_attrs::Pairs;
 use otap_cells::{Kind, Rows, TableSet};
-use otap_groups::{Children, Lookup};
+use otap_groups::Children;
 use std::alloc::{AllocError, Global};
 
 /// The pairs of parents, in a table of attributes; `None` without a table.
@@ -23,8 +24,8 @@ pub fn find_pairs<'a, R: Rows>(
     known: &KnownIds,
 ) -> Result<PairRows<'a, R>, AllocError>
     requires kind { has_attributes kind ≡ true }
-    requires known { Knows (table_named kind set.now) kind known.now.columns.items }
-    ensures { IfOk result (λ made. (parent : Option ℕ) → ⟦<PairRows<'a, R> as Lookup>⟧.finds made parent ≡ pairs_in (table_named kind set.now) parent) }
+    requires known { Knows (table_named kind set.now) kind known.now }
+    ensures { IfOk result (FindsIf (pairs_in (table_named kind set.now))) }
 {
     let Some(rows) = set.get(kind) else {
         return Ok(None);

@@ -1,11 +1,9 @@
 //! The request of main rows, which is built only where it isn't too heavy.
 ghost use Rattle.std.specs.Prelude.{◌≡◌, ◌≤◌, IfErr, IfOk};
-ghost use Rattle.otlp_model.specs.Limits.{weight_limit, part_weight};
-ghost use Rattle.otlp_model.specs.Weight.{total};
+ghost use Rattle.otlp_model.specs.Limits.{weight_limit};
 ghost use Rattle.otap_attrs.specs.declared.refusal.CheckRefusal.TheVariants as check;
-ghost use Rattle.otap_groups.specs.Groups.{regrouped};
-ghost use Rattle.otap_groups.specs.Rows.{main_rows};
-ghost use Rattle.otap_groups.specs.Weighing.{weigh_resource_group};
+ghost use Rattle.otap_groups.specs.Made.{groups_of, groups_weight};
+ghost use Rattle.otap_groups.specs.Weighing.{weigh_groups};
 ghost use Rattle.otap_checks.specs.Refusing.{Nothing};
 ghost use Rattle.otap_checks.specs.Regrouping.{RefusesRegroup};
 ghost use Rattle.otap_checks.specs.declared.regrouping.RegroupRefusal.TheVariants as regroup;
@@ -58,13 +56,10 @@ pub fn groups_within<R: Rows, S: RowReader, P: Lookup<Child = Pair>>(
     alloc: Global,
     main: &Main<'_, R, S, P>,
 ) -> Result<Grouped<S::Item>, RegroupRefusal>
-    ensures groups { IfOk result (λ made. made.groups ≡ regrouped (P.finds main.now.resources) (P.finds main.now.scopes) (S.item main.now.items)
-        (main_rows main.now.front.ids.now main.now.front.resource_ids.now main.now.front.scope_ids.now (R.table main.now.front.rows.now).rows)) }
-    ensures tree { IfOk result (λ made. made.tree ≡ total part_weight (weigh_resource_group P.weigh P.weigh S.weigh) made.groups) }
+    ensures groups { IfOk result (λ made. made.groups ≡ groups_of main.now) }
+    ensures tree { IfOk result (λ made. made.tree ≡ weigh_groups P.weigh S.weigh made.groups) }
     ensures light { IfOk result (λ made. made.tree ≤ weight_limit) }
-    ensures refused { IfErr result (RefusesRegroup Nothing (total part_weight (weigh_resource_group P.weigh P.weigh S.weigh)
-        (regrouped (P.finds main.now.resources) (P.finds main.now.scopes) (S.item main.now.items)
-        (main_rows main.now.front.ids.now main.now.front.resource_ids.now main.now.front.scope_ids.now (R.table main.now.front.rows.now).rows)))) }
+    ensures refused { IfErr result (RefusesRegroup Nothing (groups_weight main.now)) }
 {
     let tree = main.weight();
     if tree > MAX_TREE_WEIGHT {

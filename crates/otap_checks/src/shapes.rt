@@ -80,8 +80,8 @@ pub fn has_other_parents<R: Rows>(
     kind: Kind,
     sort: PointSort,
 ) -> Result<bool, AllocError>
-    requires metrics { Knows (table_named table.Metrics set.now) table.Metrics known.now.columns.items }
-    requires points { Knows (table_named kind set.now) kind known.now.columns.items }
+    requires metrics { Knows (table_named table.Metrics set.now) table.Metrics known.now }
+    requires points { Knows (table_named kind set.now) kind known.now }
     requires parent { is_id_at kind 1 ≡ true }
     ensures yes { IfOk result (λ found. found ≡ true → WrongParent (fits_of sort) (table_named kind set.now) (table_named table.Metrics set.now)) }
     ensures no { IfOk result (λ found. found ≡ false → WrongParent (fits_of sort) (table_named kind set.now) (table_named table.Metrics set.now) → ⊥) }

@@ -1,5 +1,6 @@
 mod Agreement
 pub mod AlikeLaws
+pub mod BesideLaws
 pub mod BlockLaws
 pub mod Bounds
 pub mod CellTests
@@ -8,6 +9,7 @@ pub mod Differing
 pub mod FlatItems
 pub mod FlatSteps
 pub mod FrontKinds
+pub mod FrontRows
 pub mod Grouping
 pub mod GroupsApart
 pub mod GroupsTold

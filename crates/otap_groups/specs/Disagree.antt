@@ -14,6 +14,14 @@ pub record DifferBy (id : MainRow → Option ℕ) (cells : MainRow → List Cell
   pub of_second : id b ≡ Some shared
   pub differ : cells_are (cells a) (cells b) ≡ false
 
--- rows of one resource id differ in another cell of `resource`, or rows of one scope id in another cell of `scope`
+-- rows of one resource id differ in another cell of `resource`
+abbrev pub ResourcesDisagree : List MainRow → Type 0
+ResourcesDisagree rows = DifferBy (λ row. row.resource_id) (λ row. row.resource) rows
+
+-- rows of one scope id differ in another cell of `scope`
+abbrev pub ScopesDisagree : List MainRow → Type 0
+ScopesDisagree rows = DifferBy (λ row. row.scope_id) (λ row. row.scope) rows
+
+-- ROWS OF ONE ID differ in another cell
 abbrev pub Disagree : List MainRow → Type 0
-Disagree rows = DifferBy (λ row. row.resource_id) (λ row. row.resource) rows ⊎ DifferBy (λ row. row.scope_id) (λ row. row.scope) rows
+Disagree rows = ResourcesDisagree rows ⊎ ScopesDisagree rows

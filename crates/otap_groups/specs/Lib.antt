@@ -1,3 +1,4 @@
+pub mod Beside
 pub mod Children
 pub mod Disagree
 pub mod Flat
@@ -6,6 +7,7 @@ pub mod Groups
 pub mod Inside
 pub mod Kinds
 pub mod Linking
+pub mod Made
 pub mod ProfileTables
 pub mod Rows
 pub mod Runs

@@ -47,6 +47,10 @@ main_row_at ids resource_ids scope_ids rows place =
 unfoldable pub main_rows : List (Option ℕ) → List (Option ℕ) → List (Option ℕ) → List (List Cell) → List MainRow
 main_rows ids resource_ids scope_ids rows = map (main_row_at ids resource_ids scope_ids rows) (range_with_len 0 (length rows))
 
+-- the row at a place of main rows; past their end one without ids and cells
+abbrev pub row_at : List MainRow → ℕ → MainRow
+row_at rows place = slice_index_or rows place (main_row None None None [])
+
 abbrev pub child_row : Option ℕ → Option ℕ → List Cell → ChildRow
 child_row id parent cells = record { id = id; parent = parent; cells = cells }
 

@@ -27,6 +27,13 @@ abbrev pub weigh_resource_group : {I : Type 0} → (Pair → ℕ) → (Pair → 
 weigh_resource_group of_resource of_scope of_item group =
     weigh_resource of_resource group.resource + total part_weight (weigh_scope_group of_scope of_item) group.scopes
 
+-- THE TREE WEIGHT of a request's groups, with the weight of a part for each
+abbrev pub weigh_group : {I : Type 0} → (Pair → ℕ) → (I → ℕ) → ResourceGroup I → ℕ
+weigh_group of_pair of_item = weigh_resource_group of_pair of_pair of_item
+
+abbrev pub weigh_groups : {I : Type 0} → (Pair → ℕ) → (I → ℕ) → List (ResourceGroup I) → ℕ
+weigh_groups of_pair of_item = total part_weight (weigh_resource_group of_pair of_pair of_item)
+
 -- ---- the row weight of a request, without making its rows
 
 -- the bytes of an item's row that come from its resource and its scope, and the row itself

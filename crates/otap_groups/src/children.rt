@@ -1,7 +1,8 @@
 //! The children of a parent, by an index of the rows of a table.
-ghost use Rattle.std.specs.Prelude.{◌≡◌, ◌<◌, ℕ, Option, All, length, IfOk};
+ghost use Rattle.std.specs.Prelude.{◌≡◌, ◌<◌, All, length, IfOk};
 ghost use Rattle.std.specs.List.Sorted.{IsNonDecreasingBy};
 ghost use Rattle.otap_groups.specs.declared.entry.ChildEntry.{ChildEntry};
+ghost use Rattle.otap_groups.specs.Beside.{FindAlike};
 ghost use Rattle.otap_groups.specs.Rows.{child_rows};
 ghost use Rattle.otap_groups.specs.Children.{children};
 ghost use Rattle.otap_groups.specs.Inside.{AreStarts};
@@ -17,7 +18,7 @@ use std::alloc::{AllocError, Global};
 
 /// The rows of a table, found by their parents: the children of a parent come in the order of their rows.
 #[derive(Drop)]
-pub struct Children<'a, C: RowReader> {
+pub struct ChildIndex<'a, C: RowReader> {
     pub reader: C,
     /// Empty where the rows have no ids.
     pub ids: &'a [Option<u32>],
@@ -28,7 +29,7 @@ pub struct Children<'a, C: RowReader> {
     ghost below: { All (λ (e : ChildEntry). e.place < length (C.cells reader)) entries.items },
 }
 
-impl<'a, C: RowReader> Children<'a, C> {
+impl<'a, C: RowReader> ChildIndex<'a, C> {
     /// The rows that a reader reads, with their ids, or none of them, and their parents. Takes n log n for n rows, and time in
     /// proportion to them where parents aren't far above their number.
     pub fn new(
@@ -36,15 +37,14 @@ impl<'a, C: RowReader> Children<'a, C> {
         reader: C,
         ids: &'a [Option<u32>],
         parents: &[Option<u32>],
-    ) -> Result<Children<'a, C>, AllocError>
+    ) -> Result<ChildIndex<'a, C>, AllocError>
         requires { length parents.now ≡ length (C.cells reader) }
         ensures reader { IfOk result (λ made. made.reader ≡ reader) }
-        ensures found { IfOk result (λ made. (parent : Option ℕ) → found (C.item made.reader) made.ids.now (C.cells made.reader) made.entries.items parent
-            ≡ children (C.item reader) (child_rows ids.now parents.now (C.cells reader)) parent) }
+        ensures found { IfOk result (λ made. FindAlike (⟦<ChildIndex<'a, C> as Lookup>⟧.finds made) (children (C.item reader) (child_rows ids.now parents.now (C.cells reader)))) }
     {
         let entries = entries_of(alloc, parents)?;
         let starts = starts_of(alloc, &entries)?;
-        Ok(Children {
+        Ok(ChildIndex {
             reader,
             ids,
             entries,
@@ -64,7 +64,7 @@ impl<'a, C: RowReader> Children<'a, C> {
     }
 }
 
-impl<C: RowReader> Lookup for Children<'_, C> {
+impl<C: RowReader> Lookup for ChildIndex<'_, C> {
     type Child = C::Item;
 
     ghost finds = { λ s. found (C.item s.reader) s.ids.now (C.cells s.reader) s.entries.items };

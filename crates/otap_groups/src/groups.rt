@@ -1,13 +1,7 @@
 //! The groups of main rows.
-ghost use Rattle.std.specs.Prelude.{◌≡◌, ◌-◌, ◌<◌, ◌≤◌, length, map, drop, IfOk};
+ghost use Rattle.std.specs.Prelude.{◌≡◌, ◌<◌, ◌≤◌, length, map, IfOk};
 ghost use Rattle.otap_groups.specs.Disagree.{Disagree};
-ghost use Rattle.otap_groups.specs.Rows.{main_row_at, main_rows, same_scope};
-ghost use Rattle.otap_groups.specs.Runs.{runs};
-ghost use Rattle.otap_groups.specs.Groups.{item_of_row, regrouped, resource_at, resource_group, scope_at, scope_group};
-ghost use Rattle.otap_groups.specs.Weighing.{weigh_resource_group};
-ghost use Rattle.otap_groups.specs.Inside.{part};
-ghost use Rattle.otlp_model.specs.Limits.{weight_limit, part_weight};
-ghost use Rattle.otlp_model.specs.Weight.{total};
+ghost use Rattle.otlp_model.specs.Limits.{weight_limit};
 
 use crate::front::{FrontColumns, id_at};
 use crate::level::Level;
@@ -23,20 +17,19 @@ pub struct Main<'a, R: Rows, S: RowReader, P: Lookup<Child = Pair>> {
     pub items: S,
     pub resources: P,
     pub scopes: P,
-    ghost same_rows: { S.cells items ≡ map (drop 9) (R.table front.rows.now).rows },
+    ghost same_rows: { S.cells items ≡ map (λ row. row.own) front },
     /// Rows of one id agree.
-    ghost agree: { Disagree (main_rows front.ids.now front.resource_ids.now front.scope_ids.now (R.table front.rows.now).rows) → ⊥ },
+    ghost agree: { Disagree front → ⊥ },
 }
 
 impl<R: Rows, S: RowReader, P: Lookup<Child = Pair>> Main<'_, R, S, P> {
+    ghost use Rattle.otap_groups.specs.Made.{group_of, groups_of, groups_weight, items_between, resource_of_row, scope_group_of, scope_groups_of, scope_of_row};
+
     /// The groups of the request, which weigh at most the limit. It goes over the rows once.
-    #[tactic(auto, unfolding(crate::specs::Runs::runs, crate::specs::Groups::regrouped, crate::specs::Rows::main_rows))]
+    #[tactic(auto, using(crate::proofs::FrontRows::whole), unfolding(crate::specs::Runs::runs, crate::specs::Groups::regrouped))]
     pub fn groups(&self, alloc: Global) -> Result<Items<ResourceGroup<S::Item>>, AllocError>
-        requires light { total part_weight (weigh_resource_group P.weigh P.weigh S.weigh)
-            (regrouped (P.finds self.now.resources) (P.finds self.now.scopes) (S.item self.now.items)
-            (main_rows self.now.front.ids.now self.now.front.resource_ids.now self.now.front.scope_ids.now (R.table self.now.front.rows.now).rows)) ≤ weight_limit }
-        ensures { IfOk result (λ groups. groups ≡ regrouped (P.finds self.now.resources) (P.finds self.now.scopes) (S.item self.now.items)
-            (main_rows self.now.front.ids.now self.now.front.resource_ids.now self.now.front.scope_ids.now (R.table self.now.front.rows.now).rows)) }
+        requires light { groups_weight self.now ≤ weight_limit }
+        ensures { IfOk result (λ groups. groups ≡ groups_of self.now) }
     {
         let mut groups = Items::new(alloc);
         let mut at = 0;
@@ -57,9 +50,8 @@ impl<R: Rows, S: RowReader, P: Lookup<Child = Pair>> Main<'_, R, S, P> {
         to: usize,
     ) -> Result<ResourceGroup<S::Item>, AllocError>
         requires some { from < to }
-        requires within { to ≤ length (R.table self.now.front.rows.now).rows }
-        ensures { IfOk result (λ group. group ≡ resource_group (P.finds self.now.resources) (P.finds self.now.scopes) (S.item self.now.items)
-            (part (main_row_at self.now.front.ids.now self.now.front.resource_ids.now self.now.front.scope_ids.now (R.table self.now.front.rows.now).rows) from (to - from))) }
+        requires within { to ≤ length self.now.front }
+        ensures { IfOk result (λ group. group ≡ group_of self.now from to) }
     {
         let resource = self.resource(alloc, from)?;
         let scopes = self.scope_groups(alloc, from, to)?;
@@ -74,9 +66,8 @@ impl<R: Rows, S: RowReader, P: Lookup<Child = Pair>> Main<'_, R, S, P> {
         to: usize,
     ) -> Result<Items<ScopeGroup<S::Item>>, AllocError>
         requires some { from < to }
-        requires within { to ≤ length (R.table self.now.front.rows.now).rows }
-        ensures { IfOk result (λ groups. groups ≡ map (scope_group (P.finds self.now.scopes) (S.item self.now.items))
-            (runs same_scope (part (main_row_at self.now.front.ids.now self.now.front.resource_ids.now self.now.front.scope_ids.now (R.table self.now.front.rows.now).rows) from (to - from)))) }
+        requires within { to ≤ length self.now.front }
+        ensures { IfOk result (λ groups. groups ≡ scope_groups_of self.now from to) }
     {
         let mut groups = Items::new(alloc);
         let mut at = from;
@@ -96,40 +87,37 @@ impl<R: Rows, S: RowReader, P: Lookup<Child = Pair>> Main<'_, R, S, P> {
         to: usize,
     ) -> Result<ScopeGroup<S::Item>, AllocError>
         requires some { from < to }
-        requires within { to ≤ length (R.table self.now.front.rows.now).rows }
-        ensures { IfOk result (λ group. group ≡ scope_group (P.finds self.now.scopes) (S.item self.now.items)
-            (part (main_row_at self.now.front.ids.now self.now.front.resource_ids.now self.now.front.scope_ids.now (R.table self.now.front.rows.now).rows) from (to - from))) }
+        requires within { to ≤ length self.now.front }
+        ensures { IfOk result (λ group. group ≡ scope_group_of self.now from to) }
     {
         let scope = self.scope(alloc, from)?;
         let items = self.items(alloc, from, to)?;
         Ok(ScopeGroup { scope, items })
     }
 
-    #[tactic(auto, using(crate::proofs::PartSteps::part_next, crate::proofs::PartSteps::part_over, crate::proofs::PartSteps::own_at))]
+    #[tactic(auto, using(crate::proofs::PartSteps::part_next, crate::proofs::PartSteps::part_over, crate::proofs::FrontRows::own_of))]
     fn items(&self, alloc: Global, from: usize, to: usize) -> Result<Items<S::Item>, AllocError>
-        requires { to ≤ length (R.table self.now.front.rows.now).rows }
-        ensures { IfOk result (λ items. items ≡ map (item_of_row (S.item self.now.items))
-            (part (main_row_at self.now.front.ids.now self.now.front.resource_ids.now self.now.front.scope_ids.now (R.table self.now.front.rows.now).rows) from (to - from))) }
+        requires { to ≤ length self.now.front }
+        ensures { IfOk result (λ items. items ≡ items_between self.now from to) }
     {
         let mut items = Items::new(alloc);
         items.reserve(to.saturating_sub(from))?;
         'items: for place in from..to {
-            items.push(self.items.read(alloc, id_at(self.front.ids, place), place)?)?;
+            let id = self.front.id(place);
+            items.push(self.items.read(alloc, id, place)?)?;
         }
         Ok(items)
     }
 
     fn resource(&self, alloc: Global, place: usize) -> Result<Resource, AllocError>
-        requires { place < length (R.table self.now.front.rows.now).rows }
-        ensures { IfOk result (λ resource. resource ≡ resource_at (P.finds self.now.resources)
-            (main_row_at self.now.front.ids.now self.now.front.resource_ids.now self.now.front.scope_ids.now (R.table self.now.front.rows.now).rows place)) }
+        requires { place < length self.now.front }
+        ensures { IfOk result (λ resource. resource ≡ resource_of_row self.now place) }
     {
         let row = place as u64;
-        let schema_url = text_in(alloc, self.front.rows, 2, row)?;
-        let dropped = number_in(self.front.rows, 3, row);
-        let pairs = self
-            .resources
-            .of(alloc, id_at(self.front.resource_ids, place))?;
+        let front = &self.front;
+        let schema_url = text_in(alloc, front.rows, 2, row)?;
+        let dropped = number_in(front.rows, 3, row);
+        let pairs = self.resources.of(alloc, id_at(front.resource_ids, place))?;
         Ok(Resource {
             schema_url,
             dropped,
@@ -138,16 +126,16 @@ impl<R: Rows, S: RowReader, P: Lookup<Child = Pair>> Main<'_, R, S, P> {
     }
 
     fn scope(&self, alloc: Global, place: usize) -> Result<Scope, AllocError>
-        requires { place < length (R.table self.now.front.rows.now).rows }
-        ensures { IfOk result (λ scope. scope ≡ scope_at (P.finds self.now.scopes)
-            (main_row_at self.now.front.ids.now self.now.front.resource_ids.now self.now.front.scope_ids.now (R.table self.now.front.rows.now).rows place)) }
+        requires { place < length self.now.front }
+        ensures { IfOk result (λ scope. scope ≡ scope_of_row self.now place) }
     {
         let row = place as u64;
-        let schema_url = text_in(alloc, self.front.rows, 8, row)?;
-        let name = text_in(alloc, self.front.rows, 5, row)?;
-        let version = text_in(alloc, self.front.rows, 6, row)?;
-        let dropped = number_in(self.front.rows, 7, row);
-        let pairs = self.scopes.of(alloc, id_at(self.front.scope_ids, place))?;
+        let front = &self.front;
+        let schema_url = text_in(alloc, front.rows, 8, row)?;
+        let name = text_in(alloc, front.rows, 5, row)?;
+        let version = text_in(alloc, front.rows, 6, row)?;
+        let dropped = number_in(front.rows, 7, row);
+        let pairs = self.scopes.of(alloc, id_at(front.scope_ids, place))?;
         Ok(Scope {
             schema_url,
             name,

@@ -1,6 +1,6 @@
 //! What the items of a request come from, and its items, as lists.
 ghost use Rattle.std.specs.Prelude.{◌≡◌, ◌<◌, ◌++◌, ◌^◌, filter, length, map, nat_lt, IfOk, OnOk};
-ghost use Rattle.otap_groups.specs.Flat.{items_of, resources_of, scopes_of};
+ghost use Rattle.otap_groups.specs.Flat.{resources_of, scopes_of};
 
 use crate::flat::{Flat, Placed};
 use otlp_model::{Resource, ResourceGroup, Scope, ScopeGroup};

@@ -1,8 +1,6 @@
 //! Where the entries of each parent begin.
 ghost use Rattle.std.specs.Prelude.{◌≡◌, IfOk};
-ghost use Rattle.std.specs.List.Sorted.{IsNonDecreasingBy};
-ghost use Rattle.otap_groups.specs.declared.entry.ChildEntry.{ChildEntry};
-ghost use Rattle.otap_groups.specs.Inside.{AreStarts};
+ghost use Rattle.otap_groups.specs.Inside.{AreByParent, AreStarts};
 ghost use Rattle.otap_groups.specs.Found.{of_parent};
 
 use crate::entry::ChildEntry;
@@ -12,7 +10,7 @@ use std::alloc::{AllocError, Global};
 /// Where the entries of each parent begin, up to the parent after the greatest; nothing where parents are far above the number
 /// of the entries.
 pub(crate) fn starts_of(alloc: Global, entries: &[ChildEntry]) -> Result<Vec<usize>, AllocError>
-    requires { IsNonDecreasingBy (λ (e : ChildEntry). e.parent) entries.now }
+    requires { AreByParent entries.now }
     ensures { IfOk result (λ starts. AreStarts entries.now starts.items) }
 {
     if !are_dense(entries) {
@@ -31,7 +29,7 @@ fn are_dense(entries: &[ChildEntry]) -> bool {
 }
 
 fn starts_up_to_last(alloc: Global, entries: &[ChildEntry]) -> Result<Vec<usize>, AllocError>
-    requires { IsNonDecreasingBy (λ (e : ChildEntry). e.parent) entries.now }
+    requires { AreByParent entries.now }
     ensures { IfOk result (λ starts. AreStarts entries.now starts.items) }
 {
     let mut starts = Vec::new(alloc);
@@ -52,7 +50,7 @@ pub(crate) fn part_of<'a>(
     starts: &[usize],
     parent: u32,
 ) -> &'a [ChildEntry]
-    requires rising { IsNonDecreasingBy (λ (e : ChildEntry). e.parent) entries.now }
+    requires rising { AreByParent entries.now }
     requires starts { AreStarts entries.now starts.now }
     ensures { result.now ≡ of_parent parent entries.now }
 {

@@ -12,7 +12,6 @@ use Rattle.otap_cells.specs.Tables.{Table}
 use Rattle.otap_groups.specs.Kinds.{IsMain}
 use Rattle.otap_attrs.specs.Tables.{beside_kind, where_rows}
 use Rattle.otap_checks.specs.declared.known.ColumnIds.{ColumnIds}
-use Rattle.otap_checks.specs.declared.known.KnownIds.{KnownIds}
 use Rattle.otap_checks.specs.declared.links.TableLink.{TableLink}
 use Rattle.otap_checks.specs.Known.{Knows, KnowsAll}
 use Rattle.otap_checks.specs.Links.{links_of}
@@ -59,9 +58,9 @@ module _ (of : Signal) (by : Whose) (pair : Pair) (tables : List Table) where
       order_is b rise = sym (ordered_is of by pair tables read knows places are) ∙ (λ i. places_rise (sym named i) read (sym is i)) ∙ rise
 
       -- the ids that were found, and whether their rows are in order
-      pub ids_found : (found : Option KnownIds) (ids : KnownIds) → found ≡ Some ids
-          → IfSome found (λ (ids : KnownIds). map seen_ids ids.columns.items ≡ main_ids_kept m read lent) → map seen_ids ids.columns.items ≡ main_ids_kept m read lent
-      ids_found found ids some all = subst (λ found. IfSome found (λ (ids : KnownIds). map seen_ids ids.columns.items ≡ main_ids_kept m read lent)) some all
+      pub ids_found : (found : Option (List ColumnIds)) (ids : List ColumnIds) → found ≡ Some ids
+          → IfSome found (λ (ids : List ColumnIds). map seen_ids ids ≡ main_ids_kept m read lent) → map seen_ids ids ≡ main_ids_kept m read lent
+      ids_found found ids some all = subst (λ found. IfSome found (λ (ids : List ColumnIds). map seen_ids ids ≡ main_ids_kept m read lent)) some all
 
       pub pairs_kept : (again : List ℕ) → again ≡ places → (first : Table) (ids : List ColumnIds) (pairs : List (Kind × Table)) (below : List TableLink)
           → first ≡ kept_main m (renewed (map (main_row_in (table_named m tables)) again)) → map seen_ids ids ≡ main_ids_kept m read lent

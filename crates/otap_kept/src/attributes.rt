@@ -1,5 +1,5 @@
 //! The tables of attributes below parents that are kept.
-ghost use Rattle.std.specs.Prelude.{◌≡◌, ◌<◌, ◌++◌, ◌∷◌, [], true, drop, length, map, IfOk, OnOk};
+ghost use Rattle.std.specs.Prelude.{◌≡◌, ◌<◌, ◌++◌, ◌∷◌, [], true, drop, length, IfOk, OnOk};
 ghost use Rattle.std.specs.List.{slice_index_or};
 ghost use Rattle.otap_cells.specs.Continuing.{has_attributes};
 ghost use Rattle.otap_cells.specs.Named.{table_named};
@@ -27,7 +27,7 @@ pub(crate) fn attributes_below<R: Rows>(
     kept: &[Option<u32>],
 ) -> Result<LogicalTable, AllocError>
     requires kind { has_attributes kind ≡ true }
-    requires known { Knows (table_named kind set.now) kind read.now.columns.items }
+    requires known { Knows (table_named kind set.now) kind read.now }
     ensures { IfOk result (λ table. table ≡ kept_attributes kind (under kept.now (attribute_rows_in (table_named kind set.now)))) }
 {
     let Some(rows) = set.get(kind) else {

@@ -26,9 +26,9 @@ pub(crate) fn add_below<R: Rows>(
     links: &[TableLink],
 ) -> Result<(), AllocError>
     requires below { All IsBelow links.now }
-    requires known { All (λ (link : TableLink). Knows (table_named link.kind set.now) link.kind read.now.columns.items) links.now }
+    requires known { All (λ (link : TableLink). Knows (table_named link.kind set.now) link.kind read.now) links.now }
     ensures { OnOk result (tables.new.items
-        ≡ tables.old.items ++ map beside_kind (flat_map where_rows (kept_below set.now (map seen_ids kept.columns.items) links.now))) }
+        ≡ tables.old.items ++ map beside_kind (flat_map where_rows (kept_below set.now (map seen_ids kept) links.now))) }
 {
     let mut kept = kept;
     'links: for place in 0..links.len() {
@@ -47,11 +47,11 @@ fn table_below<R: Rows>(
     link: &TableLink,
 ) -> Result<LogicalTable, AllocError>
     requires below { IsBelow link.now }
-    requires known { Knows (table_named link.now.kind set.now) link.now.kind read.now.columns.items }
+    requires known { Knows (table_named link.now.kind set.now) link.now.kind read.now }
     ensures table { IfOk result (λ table. table
-        ≡ table_below set.now (parent_ids link.now.parents (map seen_ids kept.old.columns.items)) link.now.kind) }
-    ensures known { OnOk result (map seen_ids kept.new.columns.items
-        ≡ known_after set.now (parent_ids link.now.parents (map seen_ids kept.old.columns.items)) link.now.kind (map seen_ids kept.old.columns.items)) }
+        ≡ table_below set.now (parent_ids link.now.parents (map seen_ids kept.old)) link.now.kind) }
+    ensures known { OnOk result (map seen_ids kept.new
+        ≡ known_after set.now (parent_ids link.now.parents (map seen_ids kept.old)) link.now.kind (map seen_ids kept.old)) }
 {
     let kind = link.kind;
     let ids = parent_ids(kept, link.parents);
@@ -66,7 +66,7 @@ fn table_below<R: Rows>(
 
 /// The ids of the parents that a table names.
 fn parent_ids(kept: &KnownIds, parents: Option<Parents>) -> &[Option<u32>]
-    ensures { result.now ≡ parent_ids parents (map seen_ids kept.now.columns.items) }
+    ensures { result.now ≡ parent_ids parents (map seen_ids kept.now) }
 {
     match parents {
         Some(parents) => kept.of(parents.of, parents.at),
@@ -76,8 +76,8 @@ fn parent_ids(kept: &KnownIds, parents: Option<Parents>) -> &[Option<u32>]
 
 /// Puts the ids of the parts of a kind before those that are known.
 fn know(kept: &mut KnownIds, kind: Kind, ids: Vec<Option<u32>>) -> Result<(), AllocError>
-    ensures { OnOk result (map seen_ids kept.new.columns.items
-        ≡ record { kind = kind; column = 0; ids = ids.items } ∷ map seen_ids kept.old.columns.items) }
+    ensures { OnOk result (map seen_ids kept.new
+        ≡ record { kind = kind; column = 0; ids = ids.items } ∷ map seen_ids kept.old) }
 {
     let column = 0;
     kept.columns.insert(0, ColumnIds { kind, column, ids })?;

@@ -22,7 +22,7 @@ pub(crate) fn holders<R: Rows>(
     pair: &TextPair<'_>,
 ) -> Result<Vec<u32>, AllocError>
     requires kind { has_attributes kind ≡ true }
-    requires known { Knows (table_named kind set.now) kind read.now.columns.items }
+    requires known { Knows (table_named kind set.now) kind read.now }
     requires fine { HasFineValues set.now kind }
     ensures { IfOk result (λ found. AreHolders (text_pair pair.now) (table_named kind set.now) found.items) }
 {

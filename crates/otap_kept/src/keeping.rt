@@ -50,7 +50,7 @@ fn read_ids<R: Rows>(
     set: &TableSet<R>,
 ) -> Result<KnownIds, AllocError>
     requires { AreCleanAndLight signal set.now }
-    ensures { IfOk result (λ known. KnowsAll signal set.now known.columns.items) }
+    ensures { IfOk result (λ known. KnowsAll signal set.now known) }
 {
     match known_ids(alloc, set, signal) {
         Ok(known) => Ok(known),

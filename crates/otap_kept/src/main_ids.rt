@@ -27,9 +27,9 @@ pub(crate) fn main_ids(
     read: &KnownIds,
     places: &[usize],
 ) -> Result<Option<KnownIds>, AllocError>
-    ensures ids { IfOk result (λ found. IfSome found (λ ids. map seen_ids ids.columns.items ≡ main_ids_kept main read.now.columns.items places.now)) }
-    ensures ordered { IfOk result (λ found. IfSome found (λ ids. places_rise main read.now.columns.items places.now ≡ true)) }
-    ensures unordered { IfOk result (λ found. IfNone found (places_rise main read.now.columns.items places.now ≡ false)) }
+    ensures ids { IfOk result (λ found. IfSome found (λ ids. map seen_ids ids ≡ main_ids_kept main read.now places.now)) }
+    ensures ordered { IfOk result (λ found. IfSome found (λ ids. places_rise main read.now places.now ≡ true)) }
+    ensures unordered { IfOk result (λ found. IfNone found (places_rise main read.now places.now ≡ false)) }
 {
     let own = ids_at(alloc, read.of(main, 0), places)?;
     let Some(resources) = first_of_column(alloc, main, read, 1, places)? else {
@@ -53,8 +53,8 @@ fn first_of_column(
     column: u32,
     places: &[usize],
 ) -> Result<Option<Vec<Option<u32>>>, AllocError>
-    ensures ordered { IfOk result (λ found. IfSome found (λ first. IsFirstIds (ids_kept main read.now.columns.items places.now column) first.items)) }
-    ensures unordered { IfOk result (λ found. IfNone found (numbers_rise (ids_kept main read.now.columns.items places.now column) ≡ false)) }
+    ensures ordered { IfOk result (λ found. IfSome found (λ first. IsFirstIds (ids_kept main read.now places.now column) first.items)) }
+    ensures unordered { IfOk result (λ found. IfNone found (numbers_rise (ids_kept main read.now places.now column) ≡ false)) }
 {
     let ids = ids_at(alloc, read.of(main, column), places)?;
     let first = first_ids(alloc, &ids)?;
@@ -77,10 +77,10 @@ pub(crate) fn main_table<R: Rows>(
     kept: &KnownIds,
 ) -> Result<LogicalTable, AllocError>
     requires main { IsMain main }
-    requires known { Knows (table_named main set.now) main read.now.columns.items }
+    requires known { Knows (table_named main set.now) main read.now }
     requires within { All (λ place. place < length (table_named main set.now).rows) places.now }
     requires few { length places.now ≤ wide_ids }
-    requires kept { map seen_ids kept.now.columns.items ≡ main_ids_kept main read.now.columns.items places.now }
+    requires kept { map seen_ids kept.now ≡ main_ids_kept main read.now places.now }
     ensures { IfOk result (λ table. table ≡ kept_main main (renewed (map (main_row_in (table_named main set.now)) places.now))) }
 {
     let resources = numbers_of(alloc, main, read, places, kept, 1)?;
@@ -102,7 +102,7 @@ fn numbers_of(
     column: u32,
 ) -> Result<Vec<Option<u32>>, AllocError>
     ensures { IfOk result (λ numbers. numbers.items
-        ≡ map (new_number (ids_named main column kept.now.columns.items)) (ids_kept main read.now.columns.items places.now column)) }
+        ≡ map (new_number (ids_named main column kept.now)) (ids_kept main read.now places.now column)) }
 {
     let ids = ids_at(alloc, read.of(main, column), places)?;
     let numbers = new_numbers(alloc, kept.of(main, column), &ids)?;

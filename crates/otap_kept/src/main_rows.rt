@@ -27,7 +27,7 @@ pub(crate) fn kept_rows<R: Rows>(
     read: &KnownIds,
 ) -> Result<Vec<usize>, AllocError>
     requires accepted { AreCleanAndLight signal set.now }
-    requires known { KnowsAll signal set.now read.now.columns.items }
+    requires known { KnowsAll signal set.now read.now }
     ensures rows { IfOk result (λ found. map (main_row_in (table_named (main_of signal) set.now)) found.items
         ≡ kept_rows signal whose (text_pair pair.now) set.now) }
     ensures within { IfOk result (λ found. All (λ place. place < length (table_named (main_of signal) set.now).rows) found.items) }

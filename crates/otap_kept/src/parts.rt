@@ -37,7 +37,7 @@ pub(crate) fn parts_below<R: Rows>(
     kept: &[Option<u32>],
 ) -> Result<PartsKept, AllocError>
     requires part { IsPart kind }
-    requires known { Knows (table_named kind set.now) kind read.now.columns.items }
+    requires known { Knows (table_named kind set.now) kind read.now }
     ensures table { IfOk result (λ made. made.table ≡ kept_parts kind (parts_under kept.now (part_rows_in (table_named kind set.now)))) }
     ensures ids { IfOk result (λ made. made.ids.items ≡ former_ids (parts_under kept.now (part_rows_in (table_named kind set.now)))) }
 {

@@ -5,10 +5,9 @@ ghost use Rattle.otlp_model.specs.Weight.{weight_of};
 ghost use Rattle.otlp_model.specs.declared.request.Request.TheVariants.{Logs};
 ghost use Rattle.otap_cells.specs.declared.payload.Kind.TheVariants as table;
 ghost use Rattle.otap_cells.specs.Named.{table_named};
-ghost use Rattle.otap_groups.specs.Rows.{main_rows};
 ghost use Rattle.otap_checks.specs.Refusing.{RefusesCheck};
 ghost use Rattle.otap_checks.specs.Regrouping.{RefusesRegroup};
-ghost use Rattle.otap_groups.specs.Groups.{regrouped};
+ghost use Rattle.otap_groups.specs.Made.{groups_of};
 ghost use Rattle.otlp_model.specs.Limits.{weight_limit, count_cap};
 ghost use Rattle.otap_checks.specs.Known.{KnowsAll};
 ghost use Rattle.otap_logs.specs.Requests.{AreCleanLogs, WrongLogs, regrouped_logs, regrouped_weight};
@@ -19,7 +18,7 @@ use otap_cells::{Kind, Rows, TableSet};
 use otap_checks::{
     Grouped, KnownIds, PairRows, RegroupRefusal, checked_ids, find_pairs, front_of, groups_within,
 };
-use otap_groups::{Lookup, Main, RowReader};
+use otap_groups::Main;
 use otlp_model::{Items, LogRecord, ResourceGroup, Signal};
 use std::alloc::{AllocError, Global};
 
@@ -92,13 +91,10 @@ fn main_of<'a, R: Rows>(
     known: &'a KnownIds,
 ) -> Result<LogRows<'a, R>, AllocError>
     requires clean { AreCleanLogs set.now }
-    requires known { KnowsAll signal.Logs set.now known.now.columns.items }
+    requires known { KnowsAll signal.Logs set.now known.now }
     requires table { table_named table.Logs set.now ≡ R.table rows.now }
     requires kind { (R.table rows.now).kind ≡ table.Logs }
-    ensures { IfOk result (λ main. regrouped (⟦<PairRows<'a, R> as Lookup>⟧.finds main.resources) (⟦<PairRows<'a, R> as Lookup>⟧.finds main.scopes)
-        (⟦<LogReader<'a, R> as RowReader>⟧.item main.items)
-        (main_rows main.front.ids.now main.front.resource_ids.now main.front.scope_ids.now (R.table main.front.rows.now).rows)
-        ≡ regrouped_logs set.now) }
+    ensures { IfOk result (λ main. groups_of main ≡ regrouped_logs set.now) }
 {
     let front = front_of(rows, known);
     let resources = find_pairs(alloc, set, Kind::ResourceAttrs, known)?;

@@ -1,5 +1,5 @@
 -- The attributes of resources, scopes, points of gauges and sums, and their exemplars have fine values.
-use Rattle.std.proofs.Common.{◌≤◌, List}
+use Rattle.std.proofs.Common.{List}
 use Rattle.std.specs.Prelude.{All}
 use Rattle.std.proofs.lemmas.List.Elements.{All-map, All-nil, All-weaker}
 use Rattle.lists.proofs.Every.{all_joined, all_of_both}

@@ -1,5 +1,4 @@
 -- Points of histograms and summaries come back from their cells.
-use Rattle.std.proofs.Common.{◌≡◌, ◌^◌, ◌<◌, [], ◌∷◌, ◌∙◌}
 use Rattle.std.specs.Prelude.{All}
 use Rattle.std.proofs.lemmas.List.Elements.{All-nil}
 use Rattle.lists.proofs.Every.{all_of_both}

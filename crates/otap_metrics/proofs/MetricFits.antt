@@ -1,10 +1,9 @@
 -- The cells of real metrics, points and exemplars of the profile fit their columns.
-use Rattle.std.proofs.Common.{◌^◌, ◌∷◌, drop, arith}
+use Rattle.std.proofs.Common.{drop, arith}
 use Rattle.otlp_model.specs.Real.{IsRealMetric, IsRealShape}
 use Rattle.otlp_model.specs.declared.metrics.Metric.{Metric}
 use Rattle.otlp_model.specs.declared.metrics.Shape.{Shape}
 use Rattle.otlp_model.specs.declared.metrics.Shape.TheVariants as shapes
-use Rattle.otap_cells.specs.declared.payload.Kind.TheVariants as table
 use Rattle.otap_cells.specs.declared.profile.Base.TheVariants as base
 use Rattle.otap_cells.specs.Cells.{IsCellOf}
 use Rattle.otap_cells.specs.Columns.{metrics}

@@ -1,6 +1,6 @@
 -- The main table of a request of metrics, and the tables of the points of gauges and sums and of what is below them, are tables of the
 -- profile.
-use Rattle.std.proofs.Common.{◌^◌, ◌≤◌, List, [], ◌∷◌, drop, refl, arith}
+use Rattle.std.proofs.Common.{◌≤◌, List, [], ◌∷◌, drop, refl, arith}
 use Rattle.std.specs.Prelude.{All}
 use Rattle.std.specs.List.{AllByRecursion}
 use Rattle.std.proofs.lemmas.List.Elements.{All-nil, All-cons, All-head, All-tail, All-map, All-weaker, recursion_from_All}

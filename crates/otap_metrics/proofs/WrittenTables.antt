@@ -1,6 +1,6 @@
 -- The tables of a request of metrics are tables of the profile.
-use Rattle.std.proofs.Common.{◌≡◌, ◌^◌, ◌<◌, ◌≤◌, List, [], ◌∷◌, drop, refl, sym, subst}
-use Rattle.std.specs.Prelude.{◌==◌, All}
+use Rattle.std.proofs.Common.{◌≤◌, List, drop, refl, sym, subst}
+use Rattle.std.specs.Prelude.{All}
 use Rattle.std.specs.List.{AllByRecursion}
 use Rattle.std.proofs.lemmas.List.Elements.{All-map, All-nil, All-weaker, All-from_recursion, recursion_from_All}
 use Rattle.lists.proofs.Every.{all_joined, all_of_both}
@@ -17,7 +17,6 @@ use Rattle.otlp_model.specs.declared.metrics.Shape.{Shape}
 use Rattle.otlp_model.specs.declared.metrics.Shape.TheVariants as shapes
 use Rattle.otlp_model.specs.declared.request.Request.TheVariants.{Metrics}
 use Rattle.otap_cells.specs.declared.payload.Kind.TheVariants as table
-use Rattle.otap_cells.specs.declared.profile.Base.TheVariants as base
 use Rattle.otap_cells.specs.Columns.{exemplars as exemplar_columns, hist_points as hist_columns, summary_points as summary_columns}
 use Rattle.otap_cells.specs.Tables.{IsRow}
 use Rattle.otap_groups.specs.Flat.{items_of}

@@ -1,5 +1,5 @@
 -- What the tables of a request of metrics weigh.
-use Rattle.std.proofs.Common.{◌≡◌, ℕ, ◌+◌, ◌≤◌, ◌^◌, List, [], ◌∷◌, refl, ap, ◌∙◌, arith, map}
+use Rattle.std.proofs.Common.{◌≡◌, ℕ, ◌+◌, ◌^◌, List, [], ◌∷◌, refl, ap, ◌∙◌, arith, map}
 use Rattle.std.specs.Prelude.{min, sum_by}
 use Rattle.lists.proofs.MadeSums.{sum_of_map, sum_of_lists, sum_of_both}
 use Rattle.otlp_model.specs.declared.groups.Resource.{Resource}

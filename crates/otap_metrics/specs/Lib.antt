@@ -1,5 +1,9 @@
+pub mod Below
+pub mod Laws
 pub mod Metrics
+pub mod ReadingLaws
 pub mod Requests
+pub mod RowShapes
 pub mod Tables
 pub mod Weighing
 pub mod Writable

@@ -2,7 +2,9 @@
 use Rattle.std.specs.Prelude.{ℕ, List, Option}
 use Rattle.otlp_model.specs.declared.groups.ResourceGroup.{ResourceGroup}
 use Rattle.otlp_model.specs.declared.metrics.Metric.{Metric}
+use Rattle.otlp_model.specs.declared.request.Request.TheVariants.{Metrics}
 use Rattle.otlp_model.specs.declared.request.Signal.TheVariants as signal
+use Rattle.otlp_model.specs.Weight.{weight_of}
 use Rattle.otap_cells.specs.declared.payload.Kind.{Kind}
 use Rattle.otap_cells.specs.declared.payload.Kind.TheVariants as table
 use Rattle.otap_cells.specs.Cells.{Cell}
@@ -21,6 +23,14 @@ metric_in tables id cells = metric_of cells (record { points = points_in tables 
 unfoldable pub regrouped_metrics : List Table → List (ResourceGroup Metric)
 regrouped_metrics tables = regrouped_in table.Metrics metric_in tables
 
+-- what that request weighs
+abbrev pub regrouped_weight : List Table → ℕ
+regrouped_weight tables = weight_of (Metrics (regrouped_metrics tables))
+
 -- WHAT IS WRONG WITH THE ROWS of a kind's table among the tables of metrics
 abbrev pub WrongMetrics : List Table → Kind → RowRefusal → Type 0
 WrongMetrics tables kind wrong = RowDefect signal.Metrics tables kind wrong
+
+-- nothing is wrong with the rows of any of the tables
+abbrev pub AreCleanMetrics : List Table → Type 0
+AreCleanMetrics tables = (kind : Kind) (why : RowRefusal) → WrongMetrics tables kind why → ⊥

@@ -6,10 +6,8 @@ ghost use Rattle.otlp_model.specs.declared.histograms.HistPoint.{HistPoint};
 ghost use Rattle.otlp_model.specs.declared.histograms.SumPoint.{SumPoint};
 ghost use Rattle.otlp_model.specs.declared.metrics.Point.{Point};
 ghost use Rattle.otap_cells.specs.declared.payload.Kind.TheVariants as table;
-ghost use Rattle.otap_cells.specs.Cells.{nat_in};
-ghost use Rattle.otap_cells.specs.Scalars.{flag_in, int_in};
-ghost use Rattle.otap_cells.specs.Tables.{cell_in};
-ghost use Rattle.otap_metrics.specs.Metrics.{metric_of, shape_of};
+ghost use Rattle.otap_metrics.specs.Metrics.{metric_of};
+ghost use Rattle.otap_metrics.specs.Below.{below_by};
 
 use crate::columns::metric;
 use otap_cells::{Rows, bytes_in, flag_in, number_in, small_int_in, text_in};
@@ -46,7 +44,7 @@ impl<
 
     ghost cells = { λ s. map (drop 9) (R.table s.rows.now).rows };
 
-    ghost item = { λ s id own. metric_of own (record { points = N.finds s.points id; hist_points = H.finds s.hist_points id; summary_points = S.finds s.summary_points id }) };
+    ghost item = { λ s id own. metric_of own (below_by (N.finds s.points) (H.finds s.hist_points) (S.finds s.summary_points) id) };
 
     ghost weigh = { weight_of_metric };
 
@@ -79,12 +77,13 @@ impl<
     H: Lookup<Child = HistPoint>,
     S: Lookup<Child = SumPoint>,
 > Metrics<'_, R, N, H, S> {
+    ghost use Rattle.otap_metrics.specs.RowShapes.{shape_at};
+
     /// The shape of a row with its points.
     #[tactic(auto, unfolding(otap_cells::specs::Columns::metrics))]
     fn shape(&self, alloc: Global, id: Option<u32>, row: u64) -> Result<Shape, AllocError>
         requires { row < length (R.table self.now.rows.now).rows }
-        ensures { IfOk result (λ shape. shape ≡ shape_of (nat_in (cell_in (R.table self.now.rows.now).rows 9 row)) (int_in (cell_in (R.table self.now.rows.now).rows 13 row)) (flag_in (cell_in (R.table self.now.rows.now).rows 14 row))
-            (record { points = N.finds self.now.points id; hist_points = H.finds self.now.hist_points id; summary_points = S.finds self.now.summary_points id })) }
+        ensures { IfOk result (λ shape. shape ≡ shape_at self.now id row) }
     {
         let temporality = small_int_in(self.rows, metric::TEMPORALITY, row);
         let shape = match number_in(self.rows, metric::TYPE, row) {
@@ -108,8 +107,7 @@ impl<
     #[tactic(auto, unfolding(otap_cells::specs::Columns::metrics))]
     fn shape_weight(&self, id: Option<u32>, row: u64) -> u64
         requires { row < length (R.table self.now.rows.now).rows }
-        ensures { result ≡ min (weight_of_shape (shape_of (nat_in (cell_in (R.table self.now.rows.now).rows 9 row)) (int_in (cell_in (R.table self.now.rows.now).rows 13 row)) (flag_in (cell_in (R.table self.now.rows.now).rows 14 row))
-            (record { points = N.finds self.now.points id; hist_points = H.finds self.now.hist_points id; summary_points = S.finds self.now.summary_points id }))) count_cap }
+        ensures { result ≡ min (weight_of_shape (shape_at self.now id row)) count_cap }
     {
         match number_in(self.rows, metric::TYPE, row) {
             1 | 2 => self.points.weight_of(id),

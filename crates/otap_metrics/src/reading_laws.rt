@@ -1,11 +1,8 @@
 //! What tables of metrics mean, by their cells and ids, as functions that do nothing: each ensures a law for all tables.
-ghost use Rattle.std.specs.Prelude.{◌≡◌, All, List};
-ghost use Rattle.otap_attrs.specs.declared.refusal.RowRefusal.{RowRefusal};
-ghost use Rattle.otap_cells.specs.GivenIds.{ReadAs};
+ghost use Rattle.std.specs.Prelude.{◌≡◌, List};
 ghost use Rattle.otap_cells.specs.Tables.{Table};
-ghost use Rattle.otap_cells.specs.declared.payload.Kind.{Kind};
 ghost use Rattle.otap_checks.specs.Deciding.{CleanOrWrong, HaveByteCells};
-ghost use Rattle.otap_checks.specs.Reading.{HasAllIds};
+ghost use Rattle.otap_metrics.specs.ReadingLaws.{ForTablesReadAs, IsWrongOnlyAs};
 ghost use Rattle.otap_metrics.specs.Requests.{WrongMetrics, regrouped_metrics};
 
 /// Law: nothing is wrong with the rows of tables, or something is.
@@ -16,7 +13,6 @@ pub fn clean_or_wrong()
 /// Law: tables that read as others, whose ids are given, make their request, and nothing is wrong with them that isn't wrong
 /// with the others.
 pub fn cells_and_ids_decide()
-    ensures wrong { (tables others : List Table) → ReadAs tables others → All HasAllIds others
-        → (kind : Kind) (why : RowRefusal) → WrongMetrics tables kind why → WrongMetrics others kind why }
-    ensures request { (tables others : List Table) → ReadAs tables others → All HasAllIds others → regrouped_metrics tables ≡ regrouped_metrics others }
+    ensures wrong { ForTablesReadAs (λ tables others. IsWrongOnlyAs tables others) }
+    ensures request { ForTablesReadAs (λ tables others. regrouped_metrics tables ≡ regrouped_metrics others) }
 {}

@@ -1,5 +1,5 @@
 //! The request of the tables of a batch.
-ghost use Rattle.std.specs.Prelude.{◌≡◌, ◌≤◌, ℕ, Option, min, IfErr, IfOk, OnOk};
+ghost use Rattle.std.specs.Prelude.{◌≡◌, ◌≤◌, min, IfErr, IfOk, OnOk};
 ghost use Rattle.otlp_model.specs.Limits.{weight_limit, count_cap};
 ghost use Rattle.otlp_model.specs.Weight.{weight_of, weight_of_exemplar, weight_of_hist_point, weight_of_point, weight_of_sum_point};
 ghost use Rattle.otlp_model.specs.declared.histograms.HistPoint.{HistPoint};
@@ -8,17 +8,15 @@ ghost use Rattle.otlp_model.specs.declared.metrics.Exemplar.{Exemplar};
 ghost use Rattle.otlp_model.specs.declared.metrics.Point.{Point};
 ghost use Rattle.otlp_model.specs.declared.request.Request.TheVariants.{Metrics};
 ghost use Rattle.otlp_model.specs.declared.request.Signal.TheVariants as signal;
-ghost use Rattle.otap_cells.specs.declared.payload.Kind.{Kind};
 ghost use Rattle.otap_cells.specs.declared.payload.Kind.TheVariants as table;
 ghost use Rattle.otap_cells.specs.Named.{table_named};
-ghost use Rattle.otap_groups.specs.Groups.{regrouped};
-ghost use Rattle.otap_groups.specs.Rows.{main_rows};
-ghost use Rattle.otap_attrs.specs.declared.refusal.RowRefusal.{RowRefusal};
+ghost use Rattle.otap_groups.specs.Beside.{FindAlike};
+ghost use Rattle.otap_groups.specs.Made.{groups_of};
 ghost use Rattle.otap_checks.specs.Known.{KnowsAll};
 ghost use Rattle.otap_checks.specs.Refusing.{Nothing, RefusesCheck};
 ghost use Rattle.otap_checks.specs.Regrouping.{RefusesRegroup};
 ghost use Rattle.otap_points.specs.Found.{hist_exemplars_in, hist_points_in, point_exemplars_in, points_in, summary_points_in};
-ghost use Rattle.otap_metrics.specs.Requests.{WrongMetrics, regrouped_metrics};
+ghost use Rattle.otap_metrics.specs.Requests.{AreCleanMetrics, WrongMetrics, regrouped_metrics, regrouped_weight};
 
 use crate::reading;
 use otap_attrs::CheckRefusal;
@@ -26,7 +24,7 @@ use otap_cells::{Kind, Rows, TableSet};
 use otap_checks::{
     Grouped, KnownIds, PairRows, RegroupRefusal, checked_ids, find_pairs, front_of, groups_within,
 };
-use otap_groups::{Lookup, Main, RowReader};
+use otap_groups::{Lookup, Main};
 use otap_points::{
     find_hist_exemplars, find_hist_points, find_point_exemplars, find_points, find_summary_points,
 };
@@ -39,8 +37,8 @@ type MetricRows<'a, R, N, H, S> = Main<'a, R, reading::Metrics<'a, R, N, H, S>, 
 /// Looks at the rows of a batch of metrics, and returns what their request weighs, or `CAP` where it is more. It builds nothing.
 /// Takes n log n for n rows.
 pub fn check_rows<R: Rows>(alloc: Global, set: &TableSet<R>) -> Result<u64, CheckRefusal>
-    ensures clean { OnOk result ((kind : Kind) (why : RowRefusal) → WrongMetrics set.now kind why → ⊥) }
-    ensures weight { IfOk result (λ weight. weight ≡ min (weight_of (Metrics (regrouped_metrics set.now))) count_cap) }
+    ensures clean { OnOk result (AreCleanMetrics set.now) }
+    ensures weight { IfOk result (λ weight. weight ≡ min (regrouped_weight set.now) count_cap) }
     ensures refused { IfErr result (RefusesCheck (WrongMetrics set.now)) }
 {
     let known = checked_ids(alloc, set, Signal::Metrics)?;
@@ -56,11 +54,11 @@ pub fn check_rows<R: Rows>(alloc: Global, set: &TableSet<R>) -> Result<u64, Chec
 /// The request of a batch of metrics and what it weighs, where nothing is wrong with the rows and it weighs at most the limit.
 /// It is built only then. Takes n log n for n rows, and time in proportion to them where ids and parents rise or count from 0.
 pub fn regroup<R: Rows>(alloc: Global, set: &TableSet<R>) -> Result<Grouped<Metric>, RegroupRefusal>
-    ensures clean { OnOk result ((kind : Kind) (why : RowRefusal) → WrongMetrics set.now kind why → ⊥) }
+    ensures clean { OnOk result (AreCleanMetrics set.now) }
     ensures groups { IfOk result (λ made. made.groups ≡ regrouped_metrics set.now) }
     ensures tree { IfOk result (λ made. made.tree ≡ weight_of (Metrics made.groups)) }
     ensures light { IfOk result (λ made. made.tree ≤ weight_limit) }
-    ensures refused { IfErr result (RefusesRegroup (WrongMetrics set.now) (weight_of (Metrics (regrouped_metrics set.now)))) }
+    ensures refused { IfErr result (RefusesRegroup (WrongMetrics set.now) (regrouped_weight set.now)) }
 {
     let known = checked_ids(alloc, set, Signal::Metrics)?;
     let Some(rows) = set.get(Kind::Metrics) else {
@@ -80,8 +78,8 @@ pub fn request_of<R: Rows>(
     alloc: Global,
     set: &TableSet<R>,
 ) -> Result<Items<ResourceGroup<Metric>>, AllocError>
-    requires clean { (kind : Kind) (why : RowRefusal) → WrongMetrics set.now kind why → ⊥ }
-    requires light { weight_of (Metrics (regrouped_metrics set.now)) ≤ weight_limit }
+    requires clean { AreCleanMetrics set.now }
+    requires light { regrouped_weight set.now ≤ weight_limit }
     ensures { IfOk result (λ groups. groups ≡ regrouped_metrics set.now) }
 {
     match regroup(alloc, set) {
@@ -100,15 +98,15 @@ fn weigh_points<'a, R: Rows, X: Lookup<Child = Exemplar>, Y: Lookup<Child = Exem
     of_points: X,
     of_hists: Y,
 ) -> Result<u64, AllocError>
-    requires clean { (kind : Kind) (why : RowRefusal) → WrongMetrics set.now kind why → ⊥ }
-    requires known { KnowsAll signal.Metrics set.now known.now.columns.items }
+    requires clean { AreCleanMetrics set.now }
+    requires known { KnowsAll signal.Metrics set.now known.now }
     requires table { table_named table.Metrics set.now ≡ R.table rows.now }
     requires kind { (R.table rows.now).kind ≡ table.Metrics }
-    requires of_points { (parent : Option ℕ) → X.finds of_points parent ≡ point_exemplars_in set.now parent }
-    requires of_hists { (parent : Option ℕ) → Y.finds of_hists parent ≡ hist_exemplars_in set.now parent }
+    requires of_points { FindAlike (X.finds of_points) (point_exemplars_in set.now) }
+    requires of_hists { FindAlike (Y.finds of_hists) (hist_exemplars_in set.now) }
     requires points_weighed { (exemplar : Exemplar) → X.weigh exemplar ≡ weight_of_exemplar exemplar }
     requires hists_weighed { (exemplar : Exemplar) → Y.weigh exemplar ≡ weight_of_exemplar exemplar }
-    ensures { IfOk result (λ weight. weight ≡ min (weight_of (Metrics (regrouped_metrics set.now))) count_cap) }
+    ensures { IfOk result (λ weight. weight ≡ min (regrouped_weight set.now) count_cap) }
 {
     let points = find_points(alloc, set, known, of_points)?;
     let hist_points = find_hist_points(alloc, set, known, of_hists)?;
@@ -126,18 +124,18 @@ fn group_points<'a, R: Rows, X: Lookup<Child = Exemplar>, Y: Lookup<Child = Exem
     of_points: X,
     of_hists: Y,
 ) -> Result<Grouped<Metric>, RegroupRefusal>
-    requires clean { (kind : Kind) (why : RowRefusal) → WrongMetrics set.now kind why → ⊥ }
-    requires known { KnowsAll signal.Metrics set.now known.now.columns.items }
+    requires clean { AreCleanMetrics set.now }
+    requires known { KnowsAll signal.Metrics set.now known.now }
     requires table { table_named table.Metrics set.now ≡ R.table rows.now }
     requires kind { (R.table rows.now).kind ≡ table.Metrics }
-    requires of_points { (parent : Option ℕ) → X.finds of_points parent ≡ point_exemplars_in set.now parent }
-    requires of_hists { (parent : Option ℕ) → Y.finds of_hists parent ≡ hist_exemplars_in set.now parent }
+    requires of_points { FindAlike (X.finds of_points) (point_exemplars_in set.now) }
+    requires of_hists { FindAlike (Y.finds of_hists) (hist_exemplars_in set.now) }
     requires points_weighed { (exemplar : Exemplar) → X.weigh exemplar ≡ weight_of_exemplar exemplar }
     requires hists_weighed { (exemplar : Exemplar) → Y.weigh exemplar ≡ weight_of_exemplar exemplar }
     ensures groups { IfOk result (λ made. made.groups ≡ regrouped_metrics set.now) }
     ensures tree { IfOk result (λ made. made.tree ≡ weight_of (Metrics made.groups)) }
     ensures light { IfOk result (λ made. made.tree ≤ weight_limit) }
-    ensures refused { IfErr result (RefusesRegroup Nothing (weight_of (Metrics (regrouped_metrics set.now)))) }
+    ensures refused { IfErr result (RefusesRegroup Nothing (regrouped_weight set.now)) }
 {
     let points = find_points(alloc, set, known, of_points)?;
     let hist_points = find_hist_points(alloc, set, known, of_hists)?;
@@ -162,17 +160,17 @@ fn weight_with<
     hist_points: H,
     summary_points: S,
 ) -> Result<u64, AllocError>
-    requires clean { (kind : Kind) (why : RowRefusal) → WrongMetrics set.now kind why → ⊥ }
-    requires known { KnowsAll signal.Metrics set.now known.now.columns.items }
+    requires clean { AreCleanMetrics set.now }
+    requires known { KnowsAll signal.Metrics set.now known.now }
     requires table { table_named table.Metrics set.now ≡ R.table rows.now }
     requires kind { (R.table rows.now).kind ≡ table.Metrics }
-    requires points { (parent : Option ℕ) → N.finds points parent ≡ points_in set.now parent }
-    requires hist_points { (parent : Option ℕ) → H.finds hist_points parent ≡ hist_points_in set.now parent }
-    requires summary_points { (parent : Option ℕ) → S.finds summary_points parent ≡ summary_points_in set.now parent }
+    requires points { FindAlike (N.finds points) (points_in set.now) }
+    requires hist_points { FindAlike (H.finds hist_points) (hist_points_in set.now) }
+    requires summary_points { FindAlike (S.finds summary_points) (summary_points_in set.now) }
     requires points_weighed { (point : Point) → N.weigh point ≡ weight_of_point point }
     requires hist_points_weighed { (point : HistPoint) → H.weigh point ≡ weight_of_hist_point point }
     requires summary_points_weighed { (point : SumPoint) → S.weigh point ≡ weight_of_sum_point point }
-    ensures { IfOk result (λ weight. weight ≡ min (weight_of (Metrics (regrouped_metrics set.now))) count_cap) }
+    ensures { IfOk result (λ weight. weight ≡ min (regrouped_weight set.now) count_cap) }
 {
     let main = main_of(alloc, set, rows, known, points, hist_points, summary_points)?;
     Ok(main.weight())
@@ -194,20 +192,20 @@ fn groups_with<
     hist_points: H,
     summary_points: S,
 ) -> Result<Grouped<Metric>, RegroupRefusal>
-    requires clean { (kind : Kind) (why : RowRefusal) → WrongMetrics set.now kind why → ⊥ }
-    requires known { KnowsAll signal.Metrics set.now known.now.columns.items }
+    requires clean { AreCleanMetrics set.now }
+    requires known { KnowsAll signal.Metrics set.now known.now }
     requires table { table_named table.Metrics set.now ≡ R.table rows.now }
     requires kind { (R.table rows.now).kind ≡ table.Metrics }
-    requires points { (parent : Option ℕ) → N.finds points parent ≡ points_in set.now parent }
-    requires hist_points { (parent : Option ℕ) → H.finds hist_points parent ≡ hist_points_in set.now parent }
-    requires summary_points { (parent : Option ℕ) → S.finds summary_points parent ≡ summary_points_in set.now parent }
+    requires points { FindAlike (N.finds points) (points_in set.now) }
+    requires hist_points { FindAlike (H.finds hist_points) (hist_points_in set.now) }
+    requires summary_points { FindAlike (S.finds summary_points) (summary_points_in set.now) }
     requires points_weighed { (point : Point) → N.weigh point ≡ weight_of_point point }
     requires hist_points_weighed { (point : HistPoint) → H.weigh point ≡ weight_of_hist_point point }
     requires summary_points_weighed { (point : SumPoint) → S.weigh point ≡ weight_of_sum_point point }
     ensures groups { IfOk result (λ made. made.groups ≡ regrouped_metrics set.now) }
     ensures tree { IfOk result (λ made. made.tree ≡ weight_of (Metrics made.groups)) }
     ensures light { IfOk result (λ made. made.tree ≤ weight_limit) }
-    ensures refused { IfErr result (RefusesRegroup Nothing (weight_of (Metrics (regrouped_metrics set.now)))) }
+    ensures refused { IfErr result (RefusesRegroup Nothing (regrouped_weight set.now)) }
 {
     let main = main_of(alloc, set, rows, known, points, hist_points, summary_points)?;
     let made = groups_within(alloc, &main)?;
@@ -230,20 +228,17 @@ fn main_of<
     hist_points: H,
     summary_points: S,
 ) -> Result<MetricRows<'a, R, N, H, S>, AllocError>
-    requires clean { (kind : Kind) (why : RowRefusal) → WrongMetrics set.now kind why → ⊥ }
-    requires known { KnowsAll signal.Metrics set.now known.now.columns.items }
+    requires clean { AreCleanMetrics set.now }
+    requires known { KnowsAll signal.Metrics set.now known.now }
     requires table { table_named table.Metrics set.now ≡ R.table rows.now }
     requires kind { (R.table rows.now).kind ≡ table.Metrics }
-    requires points { (parent : Option ℕ) → N.finds points parent ≡ points_in set.now parent }
-    requires hist_points { (parent : Option ℕ) → H.finds hist_points parent ≡ hist_points_in set.now parent }
-    requires summary_points { (parent : Option ℕ) → S.finds summary_points parent ≡ summary_points_in set.now parent }
+    requires points { FindAlike (N.finds points) (points_in set.now) }
+    requires hist_points { FindAlike (H.finds hist_points) (hist_points_in set.now) }
+    requires summary_points { FindAlike (S.finds summary_points) (summary_points_in set.now) }
     requires points_weighed { (point : Point) → N.weigh point ≡ weight_of_point point }
     requires hist_points_weighed { (point : HistPoint) → H.weigh point ≡ weight_of_hist_point point }
     requires summary_points_weighed { (point : SumPoint) → S.weigh point ≡ weight_of_sum_point point }
-    ensures { IfOk result (λ main. regrouped (⟦<PairRows<'a, R> as Lookup>⟧.finds main.resources) (⟦<PairRows<'a, R> as Lookup>⟧.finds main.scopes)
-        (⟦<reading::Metrics<'a, R, N, H, S> as RowReader>⟧.item main.items)
-        (main_rows main.front.ids.now main.front.resource_ids.now main.front.scope_ids.now (R.table main.front.rows.now).rows)
-        ≡ regrouped_metrics set.now) }
+    ensures { IfOk result (λ main. groups_of main ≡ regrouped_metrics set.now) }
 {
     let front = front_of(rows, known);
     let resources = find_pairs(alloc, set, Kind::ResourceAttrs, known)?;

@@ -1,11 +1,12 @@
 //! Points and exemplars, found by what they are below.
-ghost use Rattle.std.specs.Prelude.{◌≡◌, ℕ, Option, true, IfOk};
+ghost use Rattle.std.specs.Prelude.{◌≡◌, true, IfOk};
 ghost use Rattle.otlp_model.specs.Weight.{weight_of_exemplar};
 ghost use Rattle.otlp_model.specs.declared.metrics.Exemplar.{Exemplar};
 ghost use Rattle.otlp_model.specs.declared.request.Signal.TheVariants as signal;
 ghost use Rattle.otap_cells.specs.Columns.{columns_of, exemplars};
 ghost use Rattle.otap_cells.specs.Continuing.{has_attributes};
 ghost use Rattle.otap_cells.specs.Named.{table_named};
+ghost use Rattle.otap_groups.specs.Beside.{FindAlike, FindsIf};
 ghost use Rattle.otap_groups.specs.Kinds.{IsPart};
 ghost use Rattle.otap_checks.specs.Known.{Knows, KnowsAll};
 ghost use Rattle.otap_points.specs.Found.{exemplars_in, hist_exemplars_in, hist_points_in, point_exemplars_in, points_in, summary_points_in};
@@ -39,8 +40,8 @@ pub fn find_point_exemplars<'a, R: Rows>(
     set: &'a TableSet<R>,
     known: &'a KnownIds,
 ) -> Result<ExemplarRows<'a, R>, AllocError>
-    requires { KnowsAll signal.Metrics set.now known.now.columns.items }
-    ensures { IfOk result (λ made. (parent : Option ℕ) → ⟦<ExemplarRows<'a, R> as Lookup>⟧.finds made parent ≡ point_exemplars_in set.now parent) }
+    requires { KnowsAll signal.Metrics set.now known.now }
+    ensures { IfOk result (FindsIf (point_exemplars_in set.now)) }
 {
     let kind = Kind::NumberExemplars;
     let made = find_exemplars(alloc, set, kind, Kind::NumberExemplarAttrs, known)?;
@@ -53,8 +54,8 @@ pub fn find_hist_exemplars<'a, R: Rows>(
     set: &'a TableSet<R>,
     known: &'a KnownIds,
 ) -> Result<ExemplarRows<'a, R>, AllocError>
-    requires { KnowsAll signal.Metrics set.now known.now.columns.items }
-    ensures { IfOk result (λ made. (parent : Option ℕ) → ⟦<ExemplarRows<'a, R> as Lookup>⟧.finds made parent ≡ hist_exemplars_in set.now parent) }
+    requires { KnowsAll signal.Metrics set.now known.now }
+    ensures { IfOk result (FindsIf (hist_exemplars_in set.now)) }
 {
     let kind = Kind::HistExemplars;
     let made = find_exemplars(alloc, set, kind, Kind::HistExemplarAttrs, known)?;
@@ -68,10 +69,10 @@ pub fn find_points<'a, R: Rows, X: Lookup<Child = Exemplar>>(
     known: &'a KnownIds,
     exemplars: X,
 ) -> Result<PointRows<'a, R, X>, AllocError>
-    requires known { KnowsAll signal.Metrics set.now known.now.columns.items }
-    requires exemplars { (parent : Option ℕ) → X.finds exemplars parent ≡ point_exemplars_in set.now parent }
+    requires known { KnowsAll signal.Metrics set.now known.now }
+    requires exemplars { FindAlike (X.finds exemplars) (point_exemplars_in set.now) }
     requires weighed { (exemplar : Exemplar) → X.weigh exemplar ≡ weight_of_exemplar exemplar }
-    ensures { IfOk result (λ made. (parent : Option ℕ) → ⟦<PointRows<'a, R, X> as Lookup>⟧.finds made parent ≡ points_in set.now parent) }
+    ensures { IfOk result (FindsIf (points_in set.now)) }
 {
     let kind = Kind::NumberPoints;
     let Some(rows) = set.get(kind) else {
@@ -94,10 +95,10 @@ pub fn find_hist_points<'a, R: Rows, X: Lookup<Child = Exemplar>>(
     known: &'a KnownIds,
     exemplars: X,
 ) -> Result<HistPointRows<'a, R, X>, AllocError>
-    requires known { KnowsAll signal.Metrics set.now known.now.columns.items }
-    requires exemplars { (parent : Option ℕ) → X.finds exemplars parent ≡ hist_exemplars_in set.now parent }
+    requires known { KnowsAll signal.Metrics set.now known.now }
+    requires exemplars { FindAlike (X.finds exemplars) (hist_exemplars_in set.now) }
     requires weighed { (exemplar : Exemplar) → X.weigh exemplar ≡ weight_of_exemplar exemplar }
-    ensures { IfOk result (λ made. (parent : Option ℕ) → ⟦<HistPointRows<'a, R, X> as Lookup>⟧.finds made parent ≡ hist_points_in set.now parent) }
+    ensures { IfOk result (FindsIf (hist_points_in set.now)) }
 {
     let kind = Kind::HistPoints;
     let Some(rows) = set.get(kind) else {
@@ -119,8 +120,8 @@ pub fn find_summary_points<'a, R: Rows>(
     set: &'a TableSet<R>,
     known: &'a KnownIds,
 ) -> Result<SumPointRows<'a, R>, AllocError>
-    requires { KnowsAll signal.Metrics set.now known.now.columns.items }
-    ensures { IfOk result (λ made. (parent : Option ℕ) → ⟦<SumPointRows<'a, R> as Lookup>⟧.finds made parent ≡ summary_points_in set.now parent) }
+    requires { KnowsAll signal.Metrics set.now known.now }
+    ensures { IfOk result (FindsIf (summary_points_in set.now)) }
 {
     let kind = Kind::SummaryPoints;
     let Some(rows) = set.get(kind) else {
@@ -141,11 +142,10 @@ fn find_exemplars<'a, R: Rows>(
 ) -> Result<ExemplarRows<'a, R>, AllocError>
     requires part { IsPart kind }
     requires columns { columns_of kind ≡ exemplars }
-    requires known { Knows (table_named kind set.now) kind known.now.columns.items }
+    requires known { Knows (table_named kind set.now) kind known.now }
     requires attributes { has_attributes attributes ≡ true }
-    requires pairs { Knows (table_named attributes set.now) attributes known.now.columns.items }
-    ensures { IfOk result (λ made. (parent : Option ℕ) → ⟦<ExemplarRows<'a, R> as Lookup>⟧.finds made parent
-        ≡ exemplars_in (table_named kind set.now) (table_named attributes set.now) parent) }
+    requires pairs { Knows (table_named attributes set.now) attributes known.now }
+    ensures { IfOk result (FindsIf (exemplars_in (table_named kind set.now) (table_named attributes set.now))) }
 {
     let Some(rows) = set.get(kind) else {
         return Ok(None);

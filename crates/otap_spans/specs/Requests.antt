@@ -34,12 +34,16 @@ events_in t pair_table = children (event_in pair_table) (part_rows_in t)
 abbrev pub links_in : Table → Table → Option ℕ → List Link
 links_in t pair_table = children (link_in pair_table) (part_rows_in t)
 
+-- those that the tables of a batch have for a span's id
+abbrev pub span_events_in : List Table → Option ℕ → List Event
+span_events_in tables = events_in (table_named table.SpanEvents tables) (table_named table.EventAttrs tables)
+
+abbrev pub span_links_in : List Table → Option ℕ → List Link
+span_links_in tables = links_in (table_named table.SpanLinks tables) (table_named table.LinkAttrs tables)
+
 -- the span of an id and own cells, with what the tables below have for the id
 abbrev pub span_in : List Table → Option ℕ → List Cell → Span
-span_in tables id cells = span_of cells
-    (pairs_in (table_named table.SpanAttrs tables) id)
-    (events_in (table_named table.SpanEvents tables) (table_named table.EventAttrs tables) id)
-    (links_in (table_named table.SpanLinks tables) (table_named table.LinkAttrs tables) id)
+span_in tables id cells = span_of cells (pairs_in (table_named table.SpanAttrs tables) id) (span_events_in tables id) (span_links_in tables id)
 
 -- THE REQUEST that tables make
 unfoldable pub regrouped_spans : List Table → List (ResourceGroup Span)

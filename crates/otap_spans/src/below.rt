@@ -1,15 +1,14 @@
 //! What is found below the rows of spans: events and links.
-ghost use Rattle.std.specs.Prelude.{◌≡◌, ℕ, Option, IfOk};
+ghost use Rattle.std.specs.Prelude.{IfOk};
 ghost use Rattle.otlp_model.specs.declared.request.Signal.TheVariants as signal;
-ghost use Rattle.otap_cells.specs.declared.payload.Kind.TheVariants as table;
-ghost use Rattle.otap_cells.specs.Named.{table_named};
+ghost use Rattle.otap_groups.specs.Beside.{FindsIf};
 ghost use Rattle.otap_checks.specs.Known.{KnowsAll};
-ghost use Rattle.otap_spans.specs.Requests.{events_in, links_in};
+ghost use Rattle.otap_spans.specs.Requests.{span_events_in, span_links_in};
 
 use crate::reading::{Events, Links};
 use otap_cells::{Kind, Rows, TableSet};
 use otap_checks::{KnownIds, PairRows, find_pairs, index_rows};
-use otap_groups::{Children, Lookup};
+use otap_groups::Children;
 use std::alloc::{AllocError, Global};
 
 /// The events of spans, with their pairs; `None` without a table.
@@ -25,9 +24,8 @@ pub(crate) fn find_events<'a, R: Rows>(
     set: &'a TableSet<R>,
     known: &'a KnownIds,
 ) -> Result<EventRows<'a, R>, AllocError>
-    requires { KnowsAll signal.Traces set.now known.now.columns.items }
-    ensures { IfOk result (λ made. (parent : Option ℕ) → ⟦<EventRows<'a, R> as Lookup>⟧.finds made parent
-        ≡ events_in (table_named table.SpanEvents set.now) (table_named table.EventAttrs set.now) parent) }
+    requires { KnowsAll signal.Traces set.now known.now }
+    ensures { IfOk result (FindsIf (span_events_in set.now)) }
 {
     let kind = Kind::SpanEvents;
     let Some(rows) = set.get(kind) else {
@@ -44,9 +42,8 @@ pub(crate) fn find_links<'a, R: Rows>(
     set: &'a TableSet<R>,
     known: &'a KnownIds,
 ) -> Result<LinkRows<'a, R>, AllocError>
-    requires { KnowsAll signal.Traces set.now known.now.columns.items }
-    ensures { IfOk result (λ made. (parent : Option ℕ) → ⟦<LinkRows<'a, R> as Lookup>⟧.finds made parent
-        ≡ links_in (table_named table.SpanLinks set.now) (table_named table.LinkAttrs set.now) parent) }
+    requires { KnowsAll signal.Traces set.now known.now }
+    ensures { IfOk result (FindsIf (span_links_in set.now)) }
 {
     let kind = Kind::SpanLinks;
     let Some(rows) = set.get(kind) else {

@@ -5,4 +5,4 @@ use Rattle.otap_checks.specs.Inside.{KnownFault}
 use Rattle.otap_checks.proofs.checking.check_links.Given as goal
 
 abbrev pub invariant-links : goal.invariant-links
-invariant-links l = (k : ℕ) (d : TableLink) → k < l.place → (why : RowRefusal) → KnownFault l.known.columns.items (get_or l.links k d) why → ⊥
+invariant-links l = (k : ℕ) (d : TableLink) → k < l.place → (why : RowRefusal) → KnownFault l.known (get_or l.links k d) why → ⊥

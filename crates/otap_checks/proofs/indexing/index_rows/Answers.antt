@@ -20,6 +20,6 @@ returns g c = λ parent.
     let t = table_named c.args.kind c.args.set.now in
     let own : HasIds t 0 c.of-ids.result.now = rw c.of-ids.ensures (c.requires.known 0 c.requires.part.id).are in
     let above : HasIds t 1 c.of-parents.result.now = rw c.of-parents.ensures (c.requires.known 1 c.requires.part.parent).are in
-    c.in_ok-made.ensures.found parent
+    c.in_ok-made.ensures parent
     ∙ ap (λ (cells : List (List Cell)). children (g.S.RowReader.item c.args.reader) (child_rows c.of-ids.result.now c.of-parents.result.now cells) parent) c.requires.rows
     ∙ parts_are (g.S.RowReader.item c.args.reader) t c.of-ids.result.now c.of-parents.result.now own above parent

@@ -14,7 +14,7 @@ pub names_other-requires-clause-long : goal.names_other-requires-clause-long
 names_other-requires-clause-long g c =
     let t = g.R.Rows.table c.in-Some.rows.now in
     let own : HasIds t 0 c.of-ids.result.now = rw c.of-ids.ensures
-    (subst (λ t. HasIds t 0 (ids_named table.Metrics 0 c.args.known.now.columns.items)) c.in-Some.ensures.table (c.requires.metrics 0 metrics_are_main.id).are) in
+    (subst (λ t. HasIds t 0 (ids_named table.Metrics 0 c.args.known.now)) c.in-Some.ensures.table (c.requires.metrics 0 metrics_are_main.id).are) in
     ids_long t 0 c.of-ids.result.now own
 
 pub returns-clause-yes : goal.returns-clause-yes

@@ -22,7 +22,8 @@ pub numbered_rows-requires-clause-long : goal.numbered_rows-requires-clause-long
 numbered_rows-requires-clause-long g c =
     let t = g.R.Rows.table c.in-Some.rows.now in
     let own : HasIds t 0 c.of.result.now = rw c.of.ensures
-    (subst (λ t. HasIds t 0 (ids_named c.args.kind 0 c.args.read.now.columns.items)) c.in-Some.ensures.table (c.requires.known 0 (attribute_id c.args.kind c.requires.kind)).are) in
+    (subst (λ t. HasIds t 0 (ids_named c.args.kind 0 c.args.read.now)) c.in-Some.ensures.table
+    (c.requires.known 0 (attribute_id c.args.kind c.requires.kind)).are) in
     ap length (c.deref.ensures.value ∙ c.in_ok-numbers.ensures) ∙ length-map c.of.result.now (new_number c.args.kept.now) ∙ ids_long t 0 c.of.result.now own
 
 pub returns : goal.returns
@@ -30,7 +31,8 @@ returns g c =
     let t = g.R.Rows.table c.in-Some.rows.now in
     let kept = c.args.kept.now in
     let own : HasIds t 0 c.of.result.now = rw c.of.ensures
-    (subst (λ t. HasIds t 0 (ids_named c.args.kind 0 c.args.read.now.columns.items)) c.in-Some.ensures.table (c.requires.known 0 (attribute_id c.args.kind c.requires.kind)).are) in
+    (subst (λ t. HasIds t 0 (ids_named c.args.kind 0 c.args.read.now)) c.in-Some.ensures.table
+    (c.requires.known 0 (attribute_id c.args.kind c.requires.kind)).are) in
     c.in_ok-code_parents.ensures.ok
     ∙ ap (λ (x : Table). profile_table x.kind (coded_rows x.rows)) c.in_ok-table.ensures
     ∙ (λ i. profile_table (c.in-Some.ensures.of_kind i) (coded_rows (with_numbers ((c.deref.ensures.value ∙ c.in_ok-numbers.ensures) i) t.rows)))

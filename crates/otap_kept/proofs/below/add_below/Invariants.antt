@@ -7,5 +7,5 @@ use Rattle.otap_kept.proofs.below.add_below.Given as goal
 
 abbrev pub invariant-links : goal.invariant-links
 invariant-links g l =
-    l.tables.items ++ map beside_kind (flat_map where_rows (kept_below l.set (map seen_ids l.kept.columns.items) (drop l.place l.links)))
-    ≡ l.fn.tables.items ++ map beside_kind (flat_map where_rows (kept_below l.set (map seen_ids l.fn.kept.columns.items) l.links))
+    l.tables.items ++ map beside_kind (flat_map where_rows (kept_below l.set (map seen_ids l.kept) (drop l.place l.links)))
+    ≡ l.fn.tables.items ++ map beside_kind (flat_map where_rows (kept_below l.set (map seen_ids l.fn.kept) l.links))

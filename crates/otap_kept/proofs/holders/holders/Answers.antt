@@ -24,14 +24,16 @@ pub parents_saying-requires-clause-long : goal.parents_saying-requires-clause-lo
 parents_saying-requires-clause-long g c =
     let t = g.R.Rows.table c.in-Some.rows.now in
     let own : HasIds t 0 c.of-parents.result.now = rw c.of-parents.ensures
-    (subst (λ t. HasIds t 0 (ids_named c.args.kind 0 c.args.read.now.columns.items)) c.in-Some.ensures.table (c.requires.known 0 (attribute_id c.args.kind c.requires.kind)).are) in
+    (subst (λ t. HasIds t 0 (ids_named c.args.kind 0 c.args.read.now)) c.in-Some.ensures.table
+    (c.requires.known 0 (attribute_id c.args.kind c.requires.kind)).are) in
     ids_long t 0 c.of-parents.result.now own
 
 pub returns : goal.returns
 returns g c =
     let t = g.R.Rows.table c.in-Some.rows.now in
     let own : HasIds t 0 c.of-parents.result.now = rw c.of-parents.ensures
-    (subst (λ t. HasIds t 0 (ids_named c.args.kind 0 c.args.read.now.columns.items)) c.in-Some.ensures.table (c.requires.known 0 (attribute_id c.args.kind c.requires.kind)).are) in
+    (subst (λ t. HasIds t 0 (ids_named c.args.kind 0 c.args.read.now)) c.in-Some.ensures.table
+    (c.requires.known 0 (attribute_id c.args.kind c.requires.kind)).are) in
     let fine : AllByRecursion IsFineRow t.rows = subst (λ t. AllByRecursion IsFineRow t.rows) c.in-Some.ensures.table (fine_rows c.args.kind c.args.set.now c.requires.fine) in
     let moved : IsPermutation (parents_saying c.args.pair.now c.of-parents.result.now t.rows) c.sort.new.self.items = rw (← c.in_ok-found.ensures) c.in_ok-sort.ensures.permutation in
     record {

@@ -30,5 +30,5 @@ returns g c =
     ∙ ap (λ kind. kept_main kind (mains_from resources scopes (g.R.Rows.table c.in-Some.rows.now).rows 0 places)) c.in-Some.ensures.of_kind
     ∙ ap (λ (t : Table). kept_main c.args.main (mains_from resources scopes t.rows 0 places)) (sym c.in-Some.ensures.table)
     ∙ ap (kept_main c.args.main)
-    (mains_read c.args.main (table_named c.args.main c.args.set.now) c.args.read.now.columns.items c.requires.known c.requires.main places
-    c.args.kept.now.columns.items c.requires.kept resources scopes (c.deref.ensures.value ∙ c.in_ok-resources.ensures) (c.deref-2.ensures.value ∙ c.in_ok-scopes.ensures))
+    (mains_read c.args.main (table_named c.args.main c.args.set.now) c.args.read.now c.requires.known c.requires.main places
+    c.args.kept.now c.requires.kept resources scopes (c.deref.ensures.value ∙ c.in_ok-resources.ensures) (c.deref-2.ensures.value ∙ c.in_ok-scopes.ensures))

@@ -21,7 +21,7 @@ holders-requires-clause-kind g c = (looked c.args.signal c.args.whose c.in-Some.
 pub holders-requires-clause-known : goal.holders-requires-clause-known
 holders-requires-clause-known g c =
     let at : IsLookedAt c.args.signal c.in-Some.kind c.in-Some.column = looked c.args.signal c.args.whose c.in-Some.kind c.in-Some.column (sym c.looked_at.ensures ∙ c.in-Some.is) in
-    subst (λ kind. Knows (table_named kind c.args.set.now) kind c.args.read.now.columns.items) at.names (c.requires.known at.link at.listed)
+    subst (λ kind. Knows (table_named kind c.args.set.now) kind c.args.read.now) at.names (c.requires.known at.link at.listed)
 
 pub holders-requires-clause-fine : goal.holders-requires-clause-fine
 holders-requires-clause-fine g c =
@@ -32,7 +32,7 @@ pub returns-clause-rows : goal.returns-clause-rows
 returns-clause-rows g c =
     let of = c.args.signal in
     let tables = c.args.set.now in
-    let read = c.args.read.now.columns.items in
+    let read = c.args.read.now in
     let column = c.in-Some.column in
     let here : looked_at of c.args.whose ≡ Some (c.in-Some.kind, column) = sym c.looked_at.ensures ∙ c.in-Some.is in
     let at : IsLookedAt of c.in-Some.kind column = looked of c.args.whose c.in-Some.kind column here in
@@ -48,7 +48,7 @@ pub returns-clause-within : goal.returns-clause-within
 returns-clause-within g c =
     let of = c.args.signal in
     let tables = c.args.set.now in
-    let read = c.args.read.now.columns.items in
+    let read = c.args.read.now in
     let column = c.in-Some.column in
     let at : IsLookedAt of c.in-Some.kind column = looked of c.args.whose c.in-Some.kind column (sym c.looked_at.ensures ∙ c.in-Some.is) in
     let t = table_named (main_of of) tables in

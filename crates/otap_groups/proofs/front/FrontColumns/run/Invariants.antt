@@ -1,5 +1,5 @@
 use Rattle.std.proofs.Common.{◌≡◌, ◌+◌, ◌-◌, ◌<◌, ◌≤◌}
-use Rattle.otap_groups.specs.Rows.{main_row_at}
+use Rattle.otap_groups.specs.Rows.{row_at}
 use Rattle.otap_groups.specs.Inside.{same_at}
 use Rattle.otap_groups.proofs.RunPlaces.{more}
 use Rattle.otap_groups.proofs.front.FrontColumns.run.Given as goal
@@ -8,8 +8,8 @@ abbrev pub invariant-rows : goal.invariant-rows
 invariant-rows g l = record {
   some : l.from < l.end;
   within : l.end ≤ l.to;
-  so_far : l.end + more (same_at l.level) (main_row_at l.self.ids.now l.self.resource_ids.now l.self.scope_ids.now (g.R.Rows.table l.self.rows.now).rows) (l.end - 1) (l.to - l.end)
-      ≡ l.from + 1 + more (same_at l.level) (main_row_at l.self.ids.now l.self.resource_ids.now l.self.scope_ids.now (g.R.Rows.table l.self.rows.now).rows) l.from (l.to - l.from - 1);
+  so_far : l.end + more (same_at l.level) (row_at l.self) (l.end - 1) (l.to - l.end)
+      ≡ l.from + 1 + more (same_at l.level) (row_at l.self) l.from (l.to - l.from - 1);
 }
 
 abbrev pub decreases-rows : goal.decreases-rows
