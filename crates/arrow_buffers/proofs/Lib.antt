@@ -4,6 +4,7 @@ pub mod EachBelow
 pub mod Ending
 pub mod Faults
 pub mod Flagging
+pub mod Full
 pub mod Growing
 pub mod Joining
 pub mod Nulling

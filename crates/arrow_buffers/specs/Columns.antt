@@ -1,7 +1,7 @@
 -- A column of cells, and how its buffers hold them (Arrow columnar format, "Physical memory
 -- layout").
 use Rattle.std.specs.Prelude.{◌≡◌, ℕ, ◌+◌, ◌*◌, ◌/◌, ◌%◌, ◌<◌, ◌≤◌, ◌==◌, Bool, ⊤, if◌then◌else◌, List, [], ◌∷◌, length, map, sum_by, slice_index, Option, Some, None, Ok, ◌++◌}
-use Rattle.std.specs.List.{range_with_len}
+use Rattle.std.specs.List.{AllByRecursion, flat_map, range_with_len}
 use Rattle.arrow_buffers.specs.declared.width.Width.{Width}
 use Rattle.arrow_buffers.specs.declared.width.Width.TheVariants.{Bit, Fixed, Var}
 use Rattle.arrow_buffers.specs.declared.width.Width.TheVariants as width
@@ -39,6 +39,12 @@ cells_len cells = sum_by cell_len cells
 -- the byte that a bit is given as
 abbrev pub bit_byte : Bool → List ℕ
 bit_byte bit = (if bit then 1 else 0) ∷ []
+
+-- none of the cells is null, and together they have these bytes: wherever the bytes of some parts of one width are these, the
+-- cells are the parts
+abbrev pub HoldsParts : ℕ → ℕ → List ℕ → ColumnIn → Type 0
+HoldsParts width rows values column = (parts : List (List ℕ)) → AllByRecursion (λ part. length part ≡ width) parts → length parts ≡ rows → flat_map (λ part. part) parts ≡ values
+    → column ≡ record { width = Fixed width; cells = map (λ part. Some part) parts }
 
 -- a row's value by its index in the buffers
 abbrev pub value_at : Width → List ℕ → List ℕ → ℕ → List ℕ

@@ -1,8 +1,8 @@
-ghost use Rattle.std.specs.Prelude.{◌≡◌, ◌+◌, ◌-◌, ◌^◌, ◌<◌, min, [], ◌∷◌, ◌++◌, length, replicate, count_by, is_none, None, pos, Ok, IfOk, OnOk, OnErr};
+ghost use Rattle.std.specs.Prelude.{◌≡◌, ◌+◌, ◌-◌, ◌*◌, ◌^◌, ◌<◌, min, [], ◌∷◌, ◌++◌, length, replicate, count_by, is_none, None, pos, Ok, IfOk, OnOk, OnErr};
 ghost use Rattle.std.specs.Option.{ForSome, option_copied};
 ghost use Rattle.arrow_buffers.specs.Bits.{validity_of};
 ghost use Rattle.arrow_buffers.specs.Limits.{max_rows, max_values};
-ghost use Rattle.arrow_buffers.specs.Columns.{HasElementSize, HasWidth, HasNoFault, cell_len, cells_len, cells_of, ended_offsets, validity_len, offsets_len, values_len};
+ghost use Rattle.arrow_buffers.specs.Columns.{HasElementSize, HasWidth, HasNoFault, HoldsParts, cell_len, cells_len, cells_of, ended_offsets, validity_len, offsets_len, values_len};
 ghost use Rattle.arrow_buffers.specs.Building.{HasValueForEach, OffsetsFit, PushesNulls, PushesValue, is_one, sized_len};
 
 use crate::Width;
@@ -81,6 +81,30 @@ impl ColumnBuilder {
             nulls: 0,
             validity: Vec::new(alloc),
             offsets,
+            values,
+        })
+    }
+
+    /// A column of values of one width, none of which is null, whose bytes come one after the other. They are moved, not
+    /// copied. Out of memory is also returned for rows that Arrow could not count.
+    pub fn full(
+        alloc: Global,
+        width: u32,
+        rows: u64,
+        values: Vec<u8>,
+    ) -> Result<ColumnBuilder, AllocError>
+        requires { length values.items ≡ rows * width }
+        ensures { IfOk result (HoldsParts width rows values.items) }
+    {
+        if rows >= MAX_ROWS {
+            return Err(AllocError);
+        }
+        Ok(ColumnBuilder {
+            width: Width::Fixed(width),
+            rows,
+            nulls: 0,
+            validity: Vec::new(alloc),
+            offsets: Vec::new(alloc),
             values,
         })
     }

@@ -1,6 +1,7 @@
 -- How the writer builds the columns of a batch, and how much they take: used in private contracts.
-use Rattle.std.specs.Prelude.{ℕ, ◌+◌, ◌*◌, ◌/◌, ◌<◌, ◌≤◌, List, [], ◌∷◌, ◌++◌, length, sum_by, Option, Some, None, option_map, pos}
+use Rattle.std.specs.Prelude.{◌≡◌, ℕ, ◌+◌, ◌*◌, ◌/◌, ◌<◌, ◌≤◌, map, List, [], ◌∷◌, ◌++◌, length, sum_by, Option, Some, None, option_map, pos}
 use Rattle.std.specs.Int.{FitsUnsignedBits}
+use Rattle.std.specs.List.{AllByRecursion, flat_map}
 use Rattle.byteorder.specs.Endian.{little_bytes}
 use Rattle.arrow_buffers.specs.declared.builder.Buffers.{Buffers}
 use Rattle.arrow_buffers.specs.declared.width.Width.{Width}
@@ -51,6 +52,10 @@ index_size other = 2
 -- an index as bytes
 abbrev pub index_of : ColumnForm → Option ℕ → Option (List ℕ)
 index_of form place = option_map (little_bytes (index_size form)) place
+
+-- no cell is null, each has so many bytes, and these are the bytes of them all
+abbrev pub AreParts : ℕ → List (Option (List ℕ)) → List ℕ → Type 0
+AreParts size cells values = (parts : List (List ℕ)) × AllByRecursion (λ part. length part ≡ size) parts × (map (λ part. Some part) parts ≡ cells) × (flat_map (λ part. part) parts ≡ values)
 
 -- an index is one that the form reaches
 abbrev pub IsIndexFor : ColumnForm → Option ℕ → Type 0

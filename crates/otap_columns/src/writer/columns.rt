@@ -17,6 +17,7 @@ ghost use Rattle.otap_columns.specs.BuiltCells.{FitsColumn, HasRoom, IsIndexFor,
 use crate::forms::ColumnForm;
 use crate::writer::cells::{is_dictionary, push_index, push_value, set_rows, unset_rows};
 use crate::writer::seen::SeenColumn;
+use crate::writer::whole::{index_bytes, value_bytes};
 use arrow_buffers::{Buffers, ColumnBuilder, Width};
 use arrow_ipc::BatchBuilder;
 use otap_cells::{Base, LogicalTable, Rows, base_of};
@@ -78,8 +79,30 @@ pub(crate) fn column_for(
     }
 }
 
-/// A column that is written as its values. The nulls before the first cell that was set and after the last one are added at once.
+/// A column that is written as its values.
 fn values_for(
+    alloc: Global,
+    table: &LogicalTable,
+    column: u32,
+    form: ColumnForm,
+) -> Result<ColumnBuilder, AllocError>
+    requires column { column < width_of table.now.kind }
+    requires fits { FitsColumn form table.now column }
+    requires plain { is_dictionary form ≡ false }
+    requires room { cells_len (stored_column form [] table.now column) < max_values }
+    ensures { IfOk result (λ built. built ≡ record { width = width_for (base_at table.now.kind column) form; cells = stored_column form [] table.now column }) }
+{
+    let Width::Fixed(width) = width_for(base_of(table.kind(), column), form) else {
+        return values_with_nulls(alloc, table, column, form);
+    };
+    let Some(values) = value_bytes(alloc, table, column, form, width)? else {
+        return values_with_nulls(alloc, table, column, form);
+    };
+    ColumnBuilder::full(alloc, width, table.rows(), values)
+}
+
+/// The same, cell by cell. The nulls before the first cell that was set and after the last one are added at once.
+fn values_with_nulls(
     alloc: Global,
     table: &LogicalTable,
     column: u32,
@@ -104,9 +127,29 @@ fn values_for(
     Ok(built)
 }
 
-/// A column that is written as indexes of its values. The nulls before the first index and after the last one are
-/// added at once.
+/// A column that is written as indexes of its values.
 fn indexes_for(
+    alloc: Global,
+    form: ColumnForm,
+    places: &[Option<u32>],
+    rows: u64,
+) -> Result<ColumnBuilder, AllocError>
+    requires few { length places.now ≤ rows }
+    requires reached { (row : ℕ) → IsIndexFor form (slice_index_or places.now row None) }
+    requires room { cells_len (map (index_of form) (filled_up rows places.now)) < max_values }
+    ensures { IfOk result (λ built. built ≡ record { width = Fixed (index_size form); cells = map (index_of form) (filled_up rows places.now) }) }
+{
+    let Some(values) = index_bytes(alloc, form, places)? else {
+        return indexes_with_nulls(alloc, form, places, rows);
+    };
+    let count = places.len() as u64;
+    let mut built = ColumnBuilder::full(alloc, index_width(form), count, values)?;
+    built.push_nulls(rows - count)?;
+    Ok(built)
+}
+
+/// The same column, index by index. The nulls before the first index and after the last one are added at once.
+fn indexes_with_nulls(
     alloc: Global,
     form: ColumnForm,
     places: &[Option<u32>],
@@ -142,7 +185,7 @@ fn unplaced_rows(places: &[Option<u32>]) -> usize
 }
 
 /// How many bytes an index has.
-fn index_width(form: ColumnForm) -> u32
+pub(crate) fn index_width(form: ColumnForm) -> u32
     ensures { result ≡ index_size form }
 {
     match form {

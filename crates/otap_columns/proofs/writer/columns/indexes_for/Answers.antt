@@ -1,26 +1,31 @@
-use Rattle.std.proofs.Common.{◌≡◌, ◌-◌, ◌++◌, None, length, map, take, replicate, arith, sym, ◌∙◌}
-use Rattle.std.proofs.lemmas.List.{take_all}
+use Rattle.std.proofs.Common.{◌≡◌, ◌*◌, ◌-◌, ◌++◌, ℕ, None, length, map, replicate, sym, ap, subst, ◌∙◌}
+use Rattle.std.specs.Prelude.{IfSome}
+use Rattle.std.proofs.lemmas.List.{length-map}
+use Rattle.arrow_buffers.specs.Columns.{HoldsParts}
 use Rattle.arrow_buffers.specs.declared.width.Width.TheVariants.{Fixed}
-use Rattle.otap_columns.specs.BuiltCells.{index_of, index_size}
-use Rattle.otap_columns.proofs.Indexed.{filled_indexes, filled_room, index_room, nulls_indexed}
+use Rattle.otap_columns.specs.BuiltCells.{AreParts, index_of, index_size}
+use Rattle.otap_columns.proofs.Indexed.{filled_indexes}
+use Rattle.otap_columns.proofs.Whole.{parts_column, values_length}
 use Rattle.otap_columns.proofs.writer.columns.indexes_for.Goals as goal
 
-pub rows-init : goal.rows-init
-rows-init c =
-    c.in_ok-push_nulls.ensures.ok
-    ∙ (λ i. record { width = (c.in_ok-built.ensures i).width; cells = (c.in_ok-built.ensures i).cells ++ replicate c.unplaced_rows-first.result None })
-    ∙ (λ i. record { width = Fixed (c.index_width.ensures i); cells = nulls_indexed c.args.form c.unplaced_rows-first.result c.args.places.now c.unplaced_rows-first.ensures.none c.unplaced_rows-first.ensures.within i })
-
-pub push_index-requires-clause-room : goal.push_index-requires-clause-room
-push_index-requires-clause-room c =
-    index_room c.args.form c.args.places.now c.rows.row (Fixed (index_size c.args.form)) c.rows.built (omega arith) c.rows.invariant
-    (omega (arith, filled_room c.args.form c.args.places.now (c.args.rows - length c.args.places.now), c.requires.room))
+pub full-requires : goal.full-requires
+full-requires c =
+    let cells = map (index_of c.args.form) c.args.places.now in
+    let size = index_size c.args.form in
+    let are : AreParts size cells c.in-Some.values.items = subst (λ o. IfSome o (λ v. AreParts size cells v.items)) c.in-Some.is c.in_ok-values.ensures in
+    values_length size cells c.in-Some.values.items are
+    ∙ ap (λ (n : ℕ). n * size) (length-map c.args.places.now (index_of c.args.form))
+    ∙ ap (λ (n : ℕ). length c.args.places.now * n) (sym c.index_width.ensures)
 
 pub returns : goal.returns
 returns c =
+    let cells = map (index_of c.args.form) c.args.places.now in
+    let size = index_size c.args.form in
     let n = c.args.rows - length c.args.places.now in
-    let all : take c.rows.row c.args.places.now ≡ c.args.places.now = take_all c.rows.row c.args.places.now (omega arith) in
-    c.in_ok-push_nulls-2.ensures.ok
-    ∙ (λ i. record { width = (c.rows.invariant i).width; cells = (c.rows.invariant i).cells ++ replicate n None })
-    ∙ (λ i. record { width = Fixed (index_size c.args.form); cells = map (index_of c.args.form) (all i) ++ replicate n None })
-    ∙ (λ i. record { width = Fixed (index_size c.args.form); cells = sym (filled_indexes c.args.form c.args.places.now n) i })
+    let are : AreParts size cells c.in-Some.values.items = subst (λ o. IfSome o (λ v. AreParts size cells v.items)) c.in-Some.is c.in_ok-values.ensures in
+    let holds = subst (λ (k : ℕ). HoldsParts k (length c.args.places.now) c.in-Some.values.items c.in_ok-built.built) c.index_width.ensures c.in_ok-built.ensures in
+    let full : c.in_ok-built.built ≡ record { width = Fixed size; cells = cells } =
+    parts_column size (length c.args.places.now) cells c.in-Some.values.items c.in_ok-built.built are (sym (length-map c.args.places.now (index_of c.args.form))) holds in
+    c.in_ok-push_nulls.ensures.ok
+    ∙ (λ i. record { width = (full i).width; cells = (full i).cells ++ replicate n None })
+    ∙ (λ i. record { width = Fixed size; cells = sym (filled_indexes c.args.form c.args.places.now n) i })
