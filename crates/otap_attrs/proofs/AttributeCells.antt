@@ -60,7 +60,7 @@ set_null [] column none = refl
 set_null (x ∷ row) zero none = ap (λ (y : Cell). y ∷ row) (sym none)
 set_null (x ∷ row) (suc column) none = ap (λ (more : List Cell). x ∷ more) (set_null row column none)
 
-some_last : (rows : List (List Cell)) (row : List Cell) (column : ℕ) (x : Cell) → get_or row column null ≡ null
+pub some_last : (rows : List (List Cell)) (row : List Cell) (column : ℕ) (x : Cell) → get_or row column null ≡ null
     → with_some column x (rows ++ row ∷ []) ≡ rows ++ set row column x ∷ []
 some_last rows row column null none = ap (λ (r : List Cell). rows ++ r ∷ []) (sym (set_null row column none))
 some_last rows row column (number n) none = with_cell-push column (number n) rows row
@@ -69,10 +69,10 @@ some_last rows row column (flag b) none = with_cell-push column (flag b) rows ro
 some_last rows row column (bytes part) none = with_cell-push column (bytes part) rows row
 
 -- a value has one of six places
-abbrev OnePlace : (ℕ → Type 0) → ℕ → Type 0
+abbrev pub OnePlace : (ℕ → Type 0) → ℕ → Type 0
 OnePlace P place = P 2 → P 3 → P 4 → P 5 → P 6 → P 7 → P place
 
-one_place : (P : ℕ → Type 0) (kind : ℕ) → OnePlace P (value_place kind)
+pub one_place : (P : ℕ → Type 0) (kind : ℕ) → OnePlace P (value_place kind)
 one_place P kind two three four five six seven = elim (cases_Bool (kind == 1)) [
   | inl a ↦ rw a two
   | inr no_a ↦ rw no_a (elim (cases_Bool (kind == 2)) [
@@ -90,7 +90,7 @@ one_place P kind two three four five six seven = elim (cases_Bool (kind == 1)) [
   ])
 ]
 
-no_value : (key type : Cell) (kind : ℕ) → get_or (key ∷ type ∷ replicate 6 null) (value_place kind) null ≡ null
+pub no_value : (key type : Cell) (kind : ℕ) → get_or (key ∷ type ∷ replicate 6 null) (value_place kind) null ≡ null
 no_value key type kind = one_place (λ place. get_or (key ∷ type ∷ replicate 6 null) place null ≡ null) kind refl refl refl refl refl refl
 
 pub row_written : (kind : Kind) (rows : List (List Cell)) (parent : ℕ) (a : AttributeIn) → has_attributes kind ≡ true

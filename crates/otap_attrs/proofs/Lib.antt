@@ -21,4 +21,5 @@ pub mod ValueCells
 pub mod ValueColumns
 pub mod ValueFaults
 pub mod ValueLaws
+pub mod WrittenAgain
 pub mod WrittenRows

@@ -37,7 +37,7 @@ use Rattle.otap_cells.proofs.AttributeColumns.{attribute_width}
 
 -- ---- parents of rows in their order
 
-same_attribute : (a b : AttributeIn) → attribute_is a b ≡ true → a ≡ b
+pub same_attribute : (a b : AttributeIn) → attribute_is a b ≡ true → a ≡ b
 same_attribute a b same =
     let p = and_parts (a.kind == b.kind && bytes_eq a.key b.key && int_eq a.int b.int && a.bits == b.bits) (bytes_eq a.bytes b.bytes) same in
     let q = and_parts (a.kind == b.kind && bytes_eq a.key b.key && int_eq a.int b.int) (a.bits == b.bits) p.0 in

@@ -8,7 +8,7 @@ ghost use Rattle.otap_cells.specs.Columns.{base_at, width_of};
 ghost use Rattle.otap_cells.specs.Continuing.{attribute_in, has_attributes, seen_attribute};
 ghost use Rattle.otap_cells.specs.Scalars.{text_cell};
 ghost use Rattle.otap_groups.specs.Flat.{placed_at};
-ghost use Rattle.otap_attrs.specs.Inside.{HasNested, IsWritableAttribute, attribute_row, is_null, said_cell, seen_placed, value_place, with_some};
+ghost use Rattle.otap_attrs.specs.Inside.{EndsNamed, EndsSame, HasNested, IsWritableAttribute, attribute_row, is_null, said_cell, seen_placed, value_place, with_some};
 ghost use Rattle.otap_attrs.specs.Values.{nested_of, pair_cells, pair_row};
 
 use crate::values::nested_bytes;
@@ -123,6 +123,46 @@ pub(crate) fn add_attribute(
     fill(table, 1, bytes_cell(says.key))?;
     fill(table, 2, number_cell(says.kind))?;
     fill(table, value_column(says.kind), value_cell(says))?;
+    Ok(())
+}
+
+/// Appends the row of an attribute with the key and the type of the row before, whose cells aren't copied.
+pub(crate) fn add_named(
+    table: &mut LogicalTable,
+    parent: u32,
+    says: &Attribute<'_>,
+) -> Result<(), AllocError>
+    requires kind { has_attributes table.old.kind ≡ true }
+    requires fits { IsWritableAttribute (seen_attribute says.now) }
+    requires named { EndsNamed (seen_attribute says.now) table.old.rows }
+    ensures ok { OnOk result (table.new ≡ record table.old { rows = table.old.rows ++ attribute_row parent (seen_attribute says.now) ∷ [] }) }
+    ensures kind { table.new.kind ≡ table.old.kind }
+{
+    table.push_row()?;
+    table.set(0, parent_cell(parent))?;
+    table.set_again(1)?;
+    table.set_again(2)?;
+    fill(table, value_column(says.kind), value_cell(says))?;
+    Ok(())
+}
+
+/// Appends the row of an attribute that says the same as the row before, whose cells aren't copied.
+pub(crate) fn add_again(
+    table: &mut LogicalTable,
+    parent: u32,
+    says: &Attribute<'_>,
+) -> Result<(), AllocError>
+    requires kind { has_attributes table.old.kind ≡ true }
+    requires fits { IsWritableAttribute (seen_attribute says.now) }
+    requires same { EndsSame (seen_attribute says.now) table.old.rows }
+    ensures ok { OnOk result (table.new ≡ record table.old { rows = table.old.rows ++ attribute_row parent (seen_attribute says.now) ∷ [] }) }
+    ensures kind { table.new.kind ≡ table.old.kind }
+{
+    table.push_row()?;
+    table.set(0, parent_cell(parent))?;
+    table.set_again(1)?;
+    table.set_again(2)?;
+    table.set_again(value_column(says.kind))?;
     Ok(())
 }
 

@@ -27,6 +27,17 @@ pub nulls_of : (kept : List ℕ) (n : ℕ) → map (cell_of_slot kept) (replicat
 nulls_of kept zero = refl
 nulls_of kept (suc n) = ap (λ cells. null ∷ cells) (nulls_of kept n)
 
+-- the cell of the slot in a row, and how far it reaches
+pub slot_reads : (kept : List ℕ) (ss : List KeptCell) (row : ℕ) → cell_of_slot kept (get_or ss row slot.Null) ≡ get_or (map (cell_of_slot kept) ss) row null
+slot_reads kept [] row = refl
+slot_reads kept (s ∷ ss) zero = refl
+slot_reads kept (s ∷ ss) (suc row) = slot_reads kept ss row
+
+pub slot_within : (kept : List ℕ) (ss : List KeptCell) (row : ℕ) → All (λ s. reach s ≤ length kept) ss → reach (get_or ss row slot.Null) ≤ length kept
+slot_within kept [] row within = omega arith
+slot_within kept (s ∷ ss) zero within = within 0 s (omega arith)
+slot_within kept (s ∷ ss) (suc row) within = slot_within kept ss row (λ k d lt. within (suc k) d (omega arith))
+
 -- bytes that come after leave the cells of the slots
 pub as_before : (old more kept : List ℕ) (ss ts : List KeptCell) (cells : List Cell)
     → All (λ t. reach t ≤ length old) ss → kept ≡ old ++ more → ts ≡ ss → map (cell_of_slot old) ss ≡ cells → map (cell_of_slot kept) ts ≡ cells

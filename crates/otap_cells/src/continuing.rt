@@ -146,7 +146,8 @@ pub fn says_again(before: &Attribute<'_>, row: &Attribute<'_>) -> bool
         && before.key == row.key
 }
 
-fn is_run_kind(kind: u32) -> bool
+/// Whether the values of a type have runs: they are neither empty nor nested.
+pub fn is_run_kind(kind: u32) -> bool
     ensures { result ≡ is_run_kind kind }
 {
     kind == 1 || kind == 2 || kind == 3 || kind == 4 || kind == 7

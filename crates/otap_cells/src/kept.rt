@@ -2,6 +2,7 @@ ghost use Rattle.std.specs.Prelude.{◌≡◌, [], ◌∷◌, ◌++◌, ◌+◌,
 ghost use Rattle.std.specs.List.{slice_index_or};
 ghost use Rattle.otap_cells.specs.Cells.{seen, null, bytes_in};
 ghost use Rattle.otap_cells.specs.Inside.{cell_of_slot, reach};
+ghost use Rattle.otap_cells.specs.declared.kept.KeptCell.TheVariants as slot;
 
 use crate::view::CellView;
 use std::alloc::{AllocError, Global};
@@ -90,6 +91,37 @@ impl Cells {
         self.slots.resize(row + 1, KeptCell::Null)?;
         self.slots[row] = slot;
         Ok(())
+    }
+
+    /// Writes the cell of a row after which no row has a cell as the one of the row before it, whose bytes aren't copied.
+    #[inline(always)]
+    pub fn set_again(&mut self, row: usize, room: usize) -> Result<(), AllocError>
+        requires some { 0 < row }
+        requires last { length self.old ≤ row + 1 }
+        requires below { row + 1 < 2 ^ 64 }
+        ensures ok { OnOk result (self.new ≡ slice_set (self.old ++ replicate (row + 1 - length self.old) null) row (slice_index_or self.old (row - 1) null)) }
+        ensures err { OnErr result (self.new ≡ self.old) }
+    {
+        let slot = slot_at(&self.slots, row - 1);
+        if row == self.slots.len() {
+            push_slot(&mut self.slots, slot, room)?;
+            return Ok(());
+        }
+        self.slots.resize(row + 1, KeptCell::Null)?;
+        self.slots[row] = slot;
+        Ok(())
+    }
+}
+
+/// The slot of a row, null past the last one.
+#[inline(always)]
+fn slot_at(slots: &[KeptCell], row: usize) -> KeptCell
+    ensures { result ≡ slice_index_or slots.now row slot.Null }
+{
+    if row < slots.len() {
+        slots[row]
+    } else {
+        KeptCell::Null
     }
 }
 

@@ -18,7 +18,9 @@ mod view;
 mod weight;
 
 pub use column_ids::{IdsRefusal, ids_of, read_ids, stored_numbers};
-pub use continuing::{Attribute, attribute_at, continues, continuing_rows, says_again};
+pub use continuing::{
+    Attribute, attribute_at, continues, continuing_rows, is_run_kind, says_again,
+};
 pub use ids::{IdFault, delta_ids, has_twice, run_ids, undo, undo_delta, undo_run};
 pub use laws::{
     names_tell_columns_apart, numbers_stand_for_one_list, numbers_tell_kinds_apart,

@@ -1,4 +1,4 @@
-ghost use Rattle.std.specs.Prelude.{◌≡◌, ◌++◌, ◌∷◌, [], ◌<◌, ◌≤◌, ◌+◌, ℕ, length, map, take, true, OnOk, OnErr};
+ghost use Rattle.std.specs.Prelude.{◌≡◌, ◌++◌, ◌∷◌, [], ◌<◌, ◌≤◌, ◌+◌, ◌-◌, ℕ, length, map, take, true, OnOk, OnErr};
 ghost use Rattle.std.specs.List.{slice_index_or};
 ghost use Rattle.otap_cells.specs.Cells.{seen, null, IsCellOf};
 ghost use Rattle.otap_cells.specs.Columns.{columns_of, base_at, width_of};
@@ -97,6 +97,21 @@ impl LogicalTable {
     {
         let row = (self.rows - 1) as usize;
         self.columns[column as usize].set(row, cell, self.room)?;
+        Ok(())
+    }
+
+    /// Writes a cell of the last row as the one of the row before it, in amortised constant time: no bytes are copied.
+    #[inline(always)]
+    pub fn set_again(&mut self, column: u32) -> Result<(), AllocError>
+        requires column { column < width_of self.old.kind }
+        requires rows { 1 < length self.old.rows }
+        ensures ok { OnOk result (self.new ≡ record self.old { rows = with_cell column (cell_in self.old.rows column (length self.old.rows - 2)) self.old.rows }) }
+        ensures err { OnErr result (self.new ≡ self.old) }
+        ensures kind { self.new.kind ≡ self.old.kind }
+        ensures count { length self.new.rows ≡ length self.old.rows }
+    {
+        let row = (self.rows - 1) as usize;
+        self.columns[column as usize].set_again(row, self.room)?;
         Ok(())
     }
 }
