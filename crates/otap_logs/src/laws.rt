@@ -1,4 +1,4 @@
-//! What the definitions mean, as functions that do nothing: each ensures a law for all requests.
+//! What the definitions mean, as functions that do nothing: each ensures a law of requests.
 ghost use Rattle.std.specs.Prelude.{◌≤◌, List, All};
 ghost use Rattle.otlp_model.specs.Same.{Same};
 ghost use Rattle.otlp_model.specs.Weight.{weight_of};
@@ -10,7 +10,8 @@ ghost use Rattle.otap_logs.specs.Laws.{AreInKindOrder, ForProfileLogs, HasRowPer
 ghost use Rattle.otap_logs.specs.Requests.{AreCleanLogs};
 ghost use Rattle.otap_logs.specs.Tables.{tables_of_logs};
 
-/// Law: the request that the tables of a request make says what the request says.
+/// Law: the request that the tables of a request make means the same telemetry. Groups without items aren't in it, and the
+/// attributes may come in another order.
 pub fn tables_tell_the_same()
     ensures { ForProfileLogs (λ groups. Same (Logs groups) (Logs (rebuilt_logs groups))) }
 {}
@@ -31,7 +32,7 @@ pub fn tables_by_type()
     ensures { (groups : List (ResourceGroup LogRecord)) → AreInKindOrder (tables_of_logs groups) }
 {}
 
-/// Law: the main table of a request has a row for each of its records.
+/// Law: the main table of a request has as many rows as the request has records.
 pub fn each_record_has_a_row()
     ensures { (groups : List (ResourceGroup LogRecord)) → HasRowPerLog (tables_of_logs groups) groups }
 {}

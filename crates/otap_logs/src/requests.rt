@@ -28,8 +28,8 @@ type LogReader<'a, R> = Records<'a, R, PairRows<'a, R>>;
 /// The main rows of logs, with their records and all pairs.
 type LogRows<'a, R> = Main<'a, R, LogReader<'a, R>, PairRows<'a, R>>;
 
-/// Looks at the rows of a batch of logs, and returns what their request weighs, or `CAP` where it is more. It builds nothing.
-/// Takes n log n for n rows.
+/// Looks at the rows of a batch of logs, and returns what their request weighs, or `CAP` where it is more; or what is wrong with
+/// them. It builds nothing. Takes n log n for n rows.
 pub fn check_rows<R: Rows>(alloc: Global, set: &TableSet<R>) -> Result<u64, CheckRefusal>
     ensures clean { OnOk result (AreCleanLogs set.now) }
     ensures weight { IfOk result (λ weight. weight ≡ min (regrouped_weight set.now) count_cap) }
@@ -43,8 +43,9 @@ pub fn check_rows<R: Rows>(alloc: Global, set: &TableSet<R>) -> Result<u64, Chec
     Ok(main.weight())
 }
 
-/// The request of a batch of logs and what it weighs, where nothing is wrong with the rows and it weighs at most the limit.
-/// It is built only then. Takes n log n for n rows, and time in proportion to them where ids and parents rise or count from 0.
+/// The request of a batch of logs and what it weighs, where nothing is wrong with the rows and it weighs at most the limit;
+/// what is wrong is named before the weight. It is built only then. Takes n log n for n rows, and time in proportion to them where
+/// ids and parents rise or count from 0.
 pub fn regroup<R: Rows>(
     alloc: Global,
     set: &TableSet<R>,

@@ -1,4 +1,4 @@
--- Words of private contracts: a metric's own cells, and the rows of all that is below it.
+-- What rows weigh: a metric's own cells, and the rows of all that is below it.
 use Rattle.std.specs.Prelude.{ℕ, ◌+◌, sum_by}
 use Rattle.otlp_model.specs.declared.metrics.Metric.{Metric}
 use Rattle.otlp_model.specs.declared.metrics.Shape.{Shape}

@@ -1,4 +1,4 @@
--- Words of private contracts: which metrics can be written.
+-- Which metrics can be written: a condition of writing and of weighing their rows.
 use Rattle.std.specs.Prelude.{All}
 use Rattle.otlp_model.specs.declared.metrics.Metric.{Metric}
 use Rattle.otap_points.specs.Writable.{CanWriteHistPoint, CanWritePoint, CanWriteSumPoint}

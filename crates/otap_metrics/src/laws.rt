@@ -1,4 +1,4 @@
-//! What the definitions mean, as functions that do nothing: each ensures a law for all requests.
+//! What the definitions mean, as functions that do nothing: each ensures a law of requests.
 ghost use Rattle.std.specs.Prelude.{◌≤◌, List, All};
 ghost use Rattle.otlp_model.specs.Same.{Same};
 ghost use Rattle.otlp_model.specs.Weight.{weight_of};
@@ -10,7 +10,8 @@ ghost use Rattle.otap_metrics.specs.Laws.{AreInKindOrder, ForProfileMetrics, Has
 ghost use Rattle.otap_metrics.specs.Requests.{AreCleanMetrics};
 ghost use Rattle.otap_metrics.specs.Tables.{tables_of_metrics};
 
-/// Law: the request that the tables of a request make says what the request says.
+/// Law: the request that the tables of a request make means the same telemetry. Groups without items aren't in it, and the
+/// attributes may come in another order.
 pub fn tables_tell_the_same()
     ensures { ForProfileMetrics (λ groups. Same (Metrics groups) (Metrics (rebuilt_metrics groups))) }
 {}
@@ -31,7 +32,7 @@ pub fn tables_by_type()
     ensures { (groups : List (ResourceGroup Metric)) → AreInKindOrder (tables_of_metrics groups) }
 {}
 
-/// Law: the main table of a request has a row for each of its metrics.
+/// Law: the main table of a request has as many rows as the request has metrics.
 pub fn each_metric_has_a_row()
     ensures { (groups : List (ResourceGroup Metric)) → HasRowPerMetric (tables_of_metrics groups) groups }
 {}

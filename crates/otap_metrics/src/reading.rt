@@ -103,7 +103,7 @@ impl<
         Ok(shape)
     }
 
-    /// What it weighs, or `CAP` where it is more.
+    /// What the shape of a row weighs, or `CAP` where it is more.
     #[tactic(auto, unfolding(otap_cells::specs::Columns::metrics))]
     fn shape_weight(&self, id: Option<u32>, row: u64) -> u64
         requires { row < length (R.table self.now.rows.now).rows }

@@ -1,17 +1,17 @@
-//! What tables of metrics mean, by their cells and ids, as functions that do nothing: each ensures a law for all tables.
+//! What tables of metrics mean, by their cells and ids, as functions that do nothing: each ensures a law of tables.
 ghost use Rattle.std.specs.Prelude.{◌≡◌, List};
 ghost use Rattle.otap_cells.specs.Tables.{Table};
 ghost use Rattle.otap_checks.specs.Deciding.{CleanOrWrong, HaveByteCells};
 ghost use Rattle.otap_metrics.specs.ReadingLaws.{ForTablesReadAs, IsWrongOnlyAs};
 ghost use Rattle.otap_metrics.specs.Requests.{WrongMetrics, regrouped_metrics};
 
-/// Law: nothing is wrong with the rows of tables, or something is.
+/// Law: nothing is wrong with the rows of tables whose cells are bytes, or something is.
 pub fn clean_or_wrong()
     ensures { (tables : List Table) → HaveByteCells tables → CleanOrWrong (WrongMetrics tables) }
 {}
 
-/// Law: tables that read as others, whose ids are given, make their request, and nothing is wrong with them that isn't wrong
-/// with the others.
+/// Law: tables that read as others, whose ids are given, make the same request, and what is wrong with them is wrong with the
+/// others too.
 pub fn cells_and_ids_decide()
     ensures wrong { ForTablesReadAs (λ tables others. IsWrongOnlyAs tables others) }
     ensures request { ForTablesReadAs (λ tables others. regrouped_metrics tables ≡ regrouped_metrics others) }

@@ -34,8 +34,8 @@ use std::alloc::{AllocError, Global};
 /// The main rows of metrics, with their metrics and all pairs, where their points are found in given ways.
 type MetricRows<'a, R, N, H, S> = Main<'a, R, reading::Metrics<'a, R, N, H, S>, PairRows<'a, R>>;
 
-/// Looks at the rows of a batch of metrics, and returns what their request weighs, or `CAP` where it is more. It builds nothing.
-/// Takes n log n for n rows.
+/// Looks at the rows of a batch of metrics, and returns what their request weighs, or `CAP` where it is more; or what is wrong
+/// with them. It builds nothing. Takes n log n for n rows.
 pub fn check_rows<R: Rows>(alloc: Global, set: &TableSet<R>) -> Result<u64, CheckRefusal>
     ensures clean { OnOk result (AreCleanMetrics set.now) }
     ensures weight { IfOk result (λ weight. weight ≡ min (regrouped_weight set.now) count_cap) }
@@ -47,12 +47,13 @@ pub fn check_rows<R: Rows>(alloc: Global, set: &TableSet<R>) -> Result<u64, Chec
     };
     let of_points = find_point_exemplars(alloc, set, &known)?;
     let of_hists = find_hist_exemplars(alloc, set, &known)?;
-    let weight = weigh_points(alloc, set, rows, &known, of_points, of_hists)?;
+    let weight = weight_by_exemplars(alloc, set, rows, &known, of_points, of_hists)?;
     Ok(weight)
 }
 
-/// The request of a batch of metrics and what it weighs, where nothing is wrong with the rows and it weighs at most the limit.
-/// It is built only then. Takes n log n for n rows, and time in proportion to them where ids and parents rise or count from 0.
+/// The request of a batch of metrics and what it weighs, where nothing is wrong with the rows and it weighs at most the limit;
+/// what is wrong is named before the weight. It is built only then. Takes n log n for n rows, and time in proportion to them where
+/// ids and parents rise or count from 0.
 pub fn regroup<R: Rows>(alloc: Global, set: &TableSet<R>) -> Result<Grouped<Metric>, RegroupRefusal>
     ensures clean { OnOk result (AreCleanMetrics set.now) }
     ensures groups { IfOk result (λ made. made.groups ≡ regrouped_metrics set.now) }
@@ -69,7 +70,7 @@ pub fn regroup<R: Rows>(alloc: Global, set: &TableSet<R>) -> Result<Grouped<Metr
     };
     let of_points = find_point_exemplars(alloc, set, &known)?;
     let of_hists = find_hist_exemplars(alloc, set, &known)?;
-    let made = group_points(alloc, set, rows, &known, of_points, of_hists)?;
+    let made = groups_by_exemplars(alloc, set, rows, &known, of_points, of_hists)?;
     Ok(made)
 }
 
@@ -90,7 +91,7 @@ pub fn request_of<R: Rows>(
 }
 
 /// What the request of a batch whose rows have nothing wrong weighs, where exemplars are found in given ways.
-fn weigh_points<'a, R: Rows, X: Lookup<Child = Exemplar>, Y: Lookup<Child = Exemplar>>(
+fn weight_by_exemplars<'a, R: Rows, X: Lookup<Child = Exemplar>, Y: Lookup<Child = Exemplar>>(
     alloc: Global,
     set: &'a TableSet<R>,
     rows: &'a R,
@@ -116,7 +117,7 @@ fn weigh_points<'a, R: Rows, X: Lookup<Child = Exemplar>, Y: Lookup<Child = Exem
 }
 
 /// The request of a batch whose rows have nothing wrong, where exemplars are found in given ways.
-fn group_points<'a, R: Rows, X: Lookup<Child = Exemplar>, Y: Lookup<Child = Exemplar>>(
+fn groups_by_exemplars<'a, R: Rows, X: Lookup<Child = Exemplar>, Y: Lookup<Child = Exemplar>>(
     alloc: Global,
     set: &'a TableSet<R>,
     rows: &'a R,

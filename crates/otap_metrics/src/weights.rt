@@ -18,7 +18,7 @@ use otap_groups::{RowWeights, part_rows_weight, rows_weight};
 use otap_points::{HistPointWeights, PointWeights, SumPointWeights};
 use otlp_model::{Items, Metric, Resource, ResourceGroup, Scope, add_capped, sum_capped};
 
-/// Weighs the rows of metrics and of all that is below them.
+/// Weighs the cells of metrics and the rows of all that is below them.
 #[derive(Clone, Copy, Debug)]
 struct MetricWeights;
 
@@ -50,7 +50,7 @@ impl RowWeights for MetricWeights {
     }
 }
 
-/// The rows of the points of a metric, and of all that is below them.
+/// What the rows of the points of a metric and of all that is below them weigh, or `CAP` where it is more.
 fn points_weight(metric: &Metric) -> u64
     requires { CanWriteMetric metric.now }
     ensures { result ≡ min (points_weight metric.now.shape) count_cap }

@@ -64,7 +64,7 @@ impl RowWriter for MetricWriter {
     }
 }
 
-/// The bytes of a metric's own cells, or `CAP` where they are more.
+/// How many bytes a metric's own cells have, or `CAP` where they have more.
 pub(crate) fn metric_cells_weight(metric: &Metric) -> u64
     ensures { result ≡ min (cells_weight (metric_cells metric.now)) count_cap }
 {
@@ -75,7 +75,7 @@ pub(crate) fn metric_cells_weight(metric: &Metric) -> u64
     ])
 }
 
-/// The number of a shape.
+/// The number of a shape. 4 would be an exponential histogram, which no metric of the model is.
 fn type_of(shape: &Shape) -> u32
     ensures { result ≡ shape_number shape.now }
 {

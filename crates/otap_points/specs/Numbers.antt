@@ -1,5 +1,5 @@
--- A measured number as two cells, one for integers and one for doubles. A cell is null where the number isn't of its sort, so zero is
--- written.
+-- A measured number as two cells, one for integers and one for doubles. A cell is null where the number isn't of its sort; the
+-- number 0 is stored as 0.
 use Rattle.otlp_model.specs.declared.metrics.Number.{Number}
 use Rattle.otlp_model.specs.declared.metrics.Number.TheVariants as numbers
 use Rattle.otap_cells.specs.Cells.{Cell, null, number, bits}

@@ -44,7 +44,7 @@ point_of cells pairs exemplars = record {
   exemplars = exemplars;
 }
 
--- ---- doubles that may be missing: null is none, and zero is written
+-- ---- doubles that may be missing: a missing one is null, and 0 is stored as 0
 
 abbrev pub optional_cell : Option ℕ → Cell
 optional_cell None = null
@@ -90,7 +90,7 @@ sum_point_cells point =
     bits_cell point.start ∷ bits_cell point.time ∷ bits_cell point.count ∷ bits_cell point.sum
     ∷ quantile_cell point.quantiles ∷ value_cell point.quantiles ∷ number_cell point.flags ∷ []
 
--- the quantiles that two lists of one length make
+-- the quantiles that two lists make, as many as the shorter one has
 abbrev pub quantiles_of : List ℕ → List ℕ → List Quantile
 quantiles_of (q ∷ qs) (v ∷ vs) = record { quantile = q; value = v } ∷ quantiles_of qs vs
 quantiles_of _ _ = []

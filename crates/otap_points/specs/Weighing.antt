@@ -1,4 +1,4 @@
--- Words of private contracts: what the rows of points and exemplars weigh with all that is below them.
+-- What the rows of points and exemplars weigh with all that is below them.
 use Rattle.std.specs.Prelude.{ℕ, ◌+◌, sum_by}
 use Rattle.otlp_model.specs.declared.histograms.HistPoint.{HistPoint}
 use Rattle.otlp_model.specs.declared.histograms.SumPoint.{SumPoint}

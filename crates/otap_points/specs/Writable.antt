@@ -1,4 +1,4 @@
--- Words of private contracts: which points and exemplars can be written.
+-- Which points and exemplars can be written: a condition of writing and of weighing their rows.
 use Rattle.std.specs.Prelude.{◌≤◌, All}
 use Rattle.otlp_model.specs.Limits.{weight_limit, part_weight}
 use Rattle.otlp_model.specs.Profile.{IsTraceId, IsSpanId}

@@ -100,7 +100,7 @@ impl PartsOf for HistPointExemplars {
 /// Writes the rows of the exemplars of a kind of points.
 #[derive(Clone, Copy, Debug)]
 pub struct ExemplarWriter {
-    /// The kind of the table.
+    /// The kind of the table, whose rows are exemplars.
     pub kind: Kind,
     ghost columns: { columns_of kind ≡ exemplars },
     ghost part: { IsPart kind },
@@ -180,7 +180,7 @@ impl PartWeights for ExemplarWeights {
     }
 }
 
-/// The bytes of an exemplar's own cells, or `CAP` where they are more.
+/// How many bytes an exemplar's own cells have, or `CAP` where they have more.
 fn exemplar_cells_weight(exemplar: &Exemplar) -> u64
     ensures { result ≡ min (cells_weight (exemplar_cells exemplar.now)) count_cap }
 {

@@ -142,7 +142,7 @@ impl PartWeights for HistPointWeights {
     }
 }
 
-/// The bytes of a point's own cells, or `CAP` where they are more.
+/// How many bytes a point's own cells have, or `CAP` where they have more.
 fn hist_cells_weight(point: &HistPoint) -> u64
     ensures { result ≡ min (cells_weight (hist_point_cells point.now)) count_cap }
 {

@@ -62,7 +62,8 @@ pub fn find_hist_exemplars<'a, R: Rows>(
     Ok(made)
 }
 
-/// Finds the points of gauges and sums by their parents, in the same way.
+/// Finds the points of gauges and sums by their parents, in the same way. Their exemplars are found by what is given, which must
+/// find what the tables have.
 pub fn find_points<'a, R: Rows, X: Lookup<Child = Exemplar>>(
     alloc: Global,
     set: &'a TableSet<R>,
@@ -88,7 +89,7 @@ pub fn find_points<'a, R: Rows, X: Lookup<Child = Exemplar>>(
     Ok(Some(made))
 }
 
-/// Finds the points of histograms, in the same way.
+/// Finds the points of histograms, in the same way as those of gauges and sums.
 pub fn find_hist_points<'a, R: Rows, X: Lookup<Child = Exemplar>>(
     alloc: Global,
     set: &'a TableSet<R>,

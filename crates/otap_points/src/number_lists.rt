@@ -84,7 +84,7 @@ fn numbers_in(alloc: Global, bytes: &[u8]) -> Result<Items<u64>, AllocError>
     Ok(numbers)
 }
 
-/// The quantiles that the bytes of both lists hold.
+/// The quantiles that the bytes of two lists hold, as many as the shorter list has.
 pub(crate) fn quantiles_in(
     alloc: Global,
     quantiles: &[u8],
@@ -119,14 +119,15 @@ pub(crate) fn list_at<R: Rows>(
     Ok(numbers)
 }
 
-/// The bytes of a list of this many numbers, or `CAP` where they are more.
+/// How many bytes a list of this many numbers has, or `CAP` where it has more.
 pub(crate) fn list_weight(len: usize) -> u64
     ensures { result ≡ min (8 * len) count_cap }
 {
     (len as u64).saturating_mul(8).min(CAP)
 }
 
-/// What as many quantiles weigh as both lists have, or `CAP` where it is more.
+/// What the quantiles of two lists of these lengths weigh, of which there are as many as the shorter one has; or `CAP` where it
+/// is more.
 pub(crate) fn quantiles_weight(asked: usize, values: usize) -> u64
     ensures { result ≡ min (16 * min asked values) count_cap }
 {

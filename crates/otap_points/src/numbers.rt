@@ -11,7 +11,7 @@ ghost use Rattle.otap_points.specs.Points.{optional_cell, optional_in};
 use otap_cells::{CellView, Rows};
 use otlp_model::Number;
 
-/// The cell of integers. It is null where the number is none, so zero is written.
+/// The cell of integers, null where the number isn't one. The integer 0 is stored as 0.
 pub(crate) fn int_value<'a>(value: &Number) -> CellView<'a>
     ensures value { seen result ≡ int_value value.now }
     ensures fits { IsCellOf base.I64 (seen result) }
@@ -22,7 +22,7 @@ pub(crate) fn int_value<'a>(value: &Number) -> CellView<'a>
     }
 }
 
-/// The cell of doubles. It is null where the number is none, so zero is written.
+/// The cell of doubles, null where the number isn't one. The double 0 is stored as 0.
 pub(crate) fn double_value<'a>(value: &Number) -> CellView<'a>
     ensures value { seen result ≡ double_value value.now }
     ensures fits { IsCellOf base.Double (seen result) }
@@ -41,7 +41,7 @@ pub(crate) fn id_cell<'a>(id: u32) -> CellView<'a>
     CellView::Num(i64::from(id))
 }
 
-/// The number that a row has: an integer in this column, or a double in the one after it.
+/// The number that a row has: the integer in this column, else the double in the one after it, else none.
 pub(crate) fn measured_at<R: Rows>(rows: &R, column: u32, row: u64) -> Number
     requires column { column + 1 < width_of (R.table rows.now).kind }
     requires few { column + 1 < 2 ^ 32 }
@@ -55,7 +55,7 @@ pub(crate) fn measured_at<R: Rows>(rows: &R, column: u32, row: u64) -> Number
     }
 }
 
-/// A double that may be missing; zero is written.
+/// A double that may be missing, null where it is. The double 0 is stored as 0.
 pub(crate) fn optional_cell<'a>(bits: Option<u64>) -> CellView<'a>
     ensures value { seen result ≡ optional_cell bits }
     ensures fits { IsCellOf base.Double (seen result) }

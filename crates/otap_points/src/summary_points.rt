@@ -129,7 +129,7 @@ impl PartWeights for SumPointWeights {
     }
 }
 
-/// The bytes of a point's own cells, or `CAP` where they are more.
+/// How many bytes a point's own cells have, or `CAP` where they have more.
 fn summary_cells_weight(point: &SumPoint) -> u64
     ensures { result ≡ min (cells_weight (sum_point_cells point.now)) count_cap }
 {

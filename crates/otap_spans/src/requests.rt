@@ -29,8 +29,8 @@ use std::alloc::{AllocError, Global};
 /// The main rows of spans, with their spans and all pairs, where events and links are found in given ways.
 type SpanRows<'a, R, E, L> = Main<'a, R, Spans<'a, R, PairRows<'a, R>, E, L>, PairRows<'a, R>>;
 
-/// Looks at the rows of a batch of spans, and returns what their request weighs, or `CAP` where it is more. It builds nothing.
-/// Takes n log n for n rows.
+/// Looks at the rows of a batch of spans, and returns what their request weighs, or `CAP` where it is more; or what is wrong with
+/// them. It builds nothing. Takes n log n for n rows.
 pub fn check_rows<R: Rows>(alloc: Global, set: &TableSet<R>) -> Result<u64, CheckRefusal>
     ensures clean { OnOk result (AreCleanSpans set.now) }
     ensures weight { IfOk result (λ weight. weight ≡ min (regrouped_weight set.now) count_cap) }
@@ -46,8 +46,9 @@ pub fn check_rows<R: Rows>(alloc: Global, set: &TableSet<R>) -> Result<u64, Chec
     Ok(weight)
 }
 
-/// The request of a batch of spans and what it weighs, where nothing is wrong with the rows and it weighs at most the limit.
-/// It is built only then. Takes n log n for n rows, and time in proportion to them where ids and parents rise or count from 0.
+/// The request of a batch of spans and what it weighs, where nothing is wrong with the rows and it weighs at most the limit;
+/// what is wrong is named before the weight. It is built only then. Takes n log n for n rows, and time in proportion to them where
+/// ids and parents rise or count from 0.
 pub fn regroup<R: Rows>(alloc: Global, set: &TableSet<R>) -> Result<Grouped<Span>, RegroupRefusal>
     ensures clean { OnOk result (AreCleanSpans set.now) }
     ensures groups { IfOk result (λ made. made.groups ≡ regrouped_spans set.now) }
