@@ -47,7 +47,7 @@ pub(crate) fn owner_of(signal: &str, whose: &str) -> Option<Owner>
         ((owner : Owner) → signal.now ≡ signal_word (signal_of owner) → whose.now ≢ whose_word (whose_of owner))
         (λ owner. (signal.now ≡ signal_word (signal_of owner)) × (whose.now ≡ whose_word (whose_of owner))) }
 {
-    match (any_signal(signal)?, whose_of(whose)?) {
+    match (any_signal(signal)?, whose_by_word(whose)?) {
         (Signal::Traces, Whose::Item) => Some(Owner::Span),
         (Signal::Traces, Whose::Resource) => Some(Owner::SpanResource),
         (Signal::Logs, Whose::Item) => Some(Owner::LogRecord),
@@ -58,7 +58,7 @@ pub(crate) fn owner_of(signal: &str, whose: &str) -> Option<Owner>
 }
 
 /// Whose attributes the word says.
-fn whose_of(word: &str) -> Option<Whose>
+fn whose_by_word(word: &str) -> Option<Whose>
     ensures { MatchOption result ((whose : Whose) → word.now ≢ whose_word whose) (λ whose. word.now ≡ whose_word whose) }
 {
     match word {
