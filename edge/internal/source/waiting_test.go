@@ -44,14 +44,14 @@ func TestWaitingEnds(t *testing.T) {
 		if _, err := in.Write([]byte("ab")); err != nil {
 			t.Error(err)
 		}
-		cancel()
 	}()
 	room := make([]byte, 1)
 	for _, want := range []string{"a", "b"} {
-		if n, err := waiting.Read(room); n != 1 || err != nil && !errors.Is(err, context.Canceled) || string(room) != want {
+		if n, err := waiting.Read(room); n != 1 || err != nil || string(room) != want {
 			t.Errorf("%d %v %s", n, err, room)
 		}
 	}
+	go cancel()
 	for i := 0; i < 2; i++ {
 		if n, err := waiting.Read(room); n != 0 || !errors.Is(err, context.Canceled) {
 			t.Errorf("%d, %v", n, err)
