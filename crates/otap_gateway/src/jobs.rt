@@ -21,6 +21,7 @@ pub(crate) mod replay;
 pub(crate) mod reply;
 pub(crate) mod resend;
 pub(crate) mod resending_laws;
+pub(crate) mod room;
 pub(crate) mod schema;
 pub(crate) mod sending_laws;
 pub(crate) mod show;

@@ -43,6 +43,28 @@ impl Backward {
         }
     }
 
+    /// A buffer in which these bytes are written.
+    pub fn from_vec(bytes: Vec<u8>) -> Backward
+        ensures { result ≡ bytes.items }
+    {
+        Backward { bytes, start: 0 }
+    }
+
+    /// All that is written.
+    #[inline]
+    pub fn as_slice(&self) -> &[u8]
+        ensures { result.now ≡ self.now }
+    {
+        &self.bytes[self.start..]
+    }
+
+    /// Takes away all that is written. The memory stays, for what is written next.
+    pub fn clear(&mut self)
+        ensures { self.new ≡ [] }
+    {
+        self.start = self.bytes.len();
+    }
+
     /// How many bytes are written.
     #[inline]
     pub fn len(&self) -> usize
@@ -122,7 +144,7 @@ impl Backward {
         Ok(())
     }
 
-    /// All that is written.
+    /// All that is written, as a vector.
     pub fn finish(self) -> Vec<u8>
         ensures { result.items ≡ self }
     {
@@ -162,8 +184,20 @@ fn grow_front(bytes: &mut Vec<u8>, start: usize, room: usize) -> Result<usize, A
     let more = room.max(old).max(LEAST);
     bytes.resize(old.saturating_add(more), 0)?;
     let moved = start + (bytes.len() - old);
-    bytes.copy_within(start..old, moved);
+    copy_back(bytes.as_mut_slice(), start, old);
     Ok(moved)
+}
+
+/// Copies the bytes between two offsets to the end, which lies behind them.
+fn copy_back(bytes: &mut [u8], start: usize, end: usize)
+    requires order { start ≤ end }
+    requires apart { end + (end - start) ≤ length bytes.old }
+    ensures copied { drop (length bytes.old - (end - start)) bytes.new ≡ take (end - start) (drop start bytes.old) }
+    ensures len { length bytes.new ≡ length bytes.old }
+{
+    let (front, back) = bytes.split_at_mut(end);
+    let (_between, place) = back.split_at_mut(back.len() - (end - start));
+    place.copy_from_slice(&front[start..]);
 }
 
 /// Moves the bytes from `start` on to the front.

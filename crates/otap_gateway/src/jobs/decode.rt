@@ -5,19 +5,24 @@ ghost use Rattle.otap_gateway.specs.Receptions.{decoded};
 
 use crate::jobs::receiving::refused;
 use crate::jobs::reply::Reply;
+use crate::jobs::room::Room;
 use otap_consume::Taken;
 use otlp_codec::put_request;
-use otlp_messages::Backward;
 use std::alloc::{AllocError, Global};
 
-/// The reply to what a frame gave.
-pub(crate) fn decode(alloc: Global, number: u64, taken: Taken) -> Result<Reply, AllocError>
+/// The reply to what a frame gave, written in the memory of a reply before it.
+pub(crate) fn decode(
+    alloc: Global,
+    number: u64,
+    taken: Taken,
+    room: &mut Room,
+) -> Result<Reply, AllocError>
     requires { HasLightRequest taken }
     ensures { IfOk result (λ reply. reply ≡ decoded number taken) }
 {
     match taken {
         Taken::Accepted { request, .. } => {
-            let mut spelling = Backward::new(alloc);
+            let mut spelling = room.take(alloc);
             put_request(&mut spelling, &request)?;
             Reply::message(alloc, spelling)
         }

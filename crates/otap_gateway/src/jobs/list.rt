@@ -41,7 +41,7 @@ impl Job for ListJob {
     }
 
     fn take_back(&mut self, reply: Reply) {
-        self.line = reply.into_out();
+        self.line = reply.into_out().finish();
     }
 }
 

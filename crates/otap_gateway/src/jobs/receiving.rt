@@ -13,6 +13,7 @@ use crate::jobs::decode::decode;
 use crate::jobs::job::Job;
 use crate::jobs::replay::replay;
 use crate::jobs::reply::Reply;
+use crate::jobs::room::Room;
 use crate::jobs::status::status_of;
 use crate::texts::causes::cause_name;
 use crate::texts::lines::refused_line;
@@ -26,6 +27,7 @@ use std::alloc::{AllocError, Global};
 pub(crate) struct ReceiverJob {
     text: ReceiverText,
     receiver: Receiver,
+    room: Room,
 }
 
 impl ReceiverJob {
@@ -38,7 +40,11 @@ impl ReceiverJob {
         ensures receiver { IfOk result (λ job. IsNew signal job.receiver) }
     {
         let receiver = Receiver::new(alloc, signal)?;
-        Ok(ReceiverJob { text, receiver })
+        Ok(ReceiverJob {
+            text,
+            receiver,
+            room: Room::new(),
+        })
     }
 }
 
@@ -49,7 +55,11 @@ impl Job for ReceiverJob {
 
     fn step(&mut self, alloc: Global, number: u64, frame: &Frame<'_>) -> Result<Reply, AllocError> {
         let taken = self.receiver.take(frame)?;
-        reply_of(self.text, alloc, number, taken)
+        reply_of(self.text, alloc, number, taken, &mut self.room)
+    }
+
+    fn take_back(&mut self, reply: Reply) {
+        self.room.keep(reply);
     }
 }
 
@@ -59,12 +69,13 @@ fn reply_of(
     alloc: Global,
     number: u64,
     taken: Taken,
+    room: &mut Room,
 ) -> Result<Reply, AllocError>
     requires { HasLightRequest taken }
     ensures { IfOk result (λ reply. reply ≡ text_of text number taken) }
 {
     match text {
-        ReceiverText::Decode => decode(alloc, number, taken),
+        ReceiverText::Decode => decode(alloc, number, taken, room),
         ReceiverText::Status => status_of(alloc, number, taken),
         ReceiverText::Replay => replay(alloc, number, taken),
     }

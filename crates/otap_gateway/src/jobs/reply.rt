@@ -13,7 +13,7 @@ use std::marker::Model;
 /// The bytes for out and for err, and whether the frame is refused.
 #[derive(Drop)]
 pub(crate) struct Reply {
-    out: Vec<u8>,
+    out: Backward,
     err: Vec<u8>,
     refused: bool,
 }
@@ -23,7 +23,7 @@ impl Model for Reply {
 
     ghost Value = { ReplyText };
 
-    ghost view = { λ s. record { out = s.out.items; err = s.err.items; refused = s.refused } };
+    ghost view = { λ s. record { out = s.out; err = s.err.items; refused = s.refused } };
 }
 
 impl Reply {
@@ -42,7 +42,11 @@ impl Reply {
         let mut head = [0; FRAME_HEAD];
         BigEndian::write_u32(&mut head[1..], part.len() as u32);
         part.push_slice(&head)?;
-        Ok(Reply::on_out(alloc, part.finish()))
+        Ok(Reply {
+            out: part,
+            err: Vec::new(alloc),
+            refused: false,
+        })
     }
 
     /// These bytes on out, as a frame.
@@ -71,7 +75,7 @@ impl Reply {
         ensures { result ≡ printed out.items }
     {
         Reply {
-            out,
+            out: Backward::from_vec(out),
             err: Vec::new(alloc),
             refused: false,
         }
@@ -82,7 +86,7 @@ impl Reply {
         ensures { result ≡ record { out = []; err = line.items; refused = false } }
     {
         Reply {
-            out: Vec::new(alloc),
+            out: Backward::new(alloc),
             err: line,
             refused: false,
         }
@@ -93,7 +97,7 @@ impl Reply {
         ensures { result ≡ refuses line.items }
     {
         Reply {
-            out: Vec::new(alloc),
+            out: Backward::new(alloc),
             err: line,
             refused: true,
         }
@@ -129,7 +133,7 @@ impl Reply {
     pub(crate) fn out(&self) -> &[u8]
         ensures { result.now ≡ self.now.out }
     {
-        &self.out
+        self.out.as_slice()
     }
 
     pub(crate) fn err(&self) -> &[u8]
@@ -139,8 +143,8 @@ impl Reply {
     }
 
     /// The bytes for out, with their memory.
-    pub(crate) fn into_out(self) -> Vec<u8>
-        ensures { result.items ≡ self.out }
+    pub(crate) fn into_out(self) -> Backward
+        ensures { result ≡ self.out }
     {
         let Reply {
             out,
