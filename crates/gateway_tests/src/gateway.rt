@@ -268,21 +268,20 @@ fn each_failing_write_leaves_a_front(rt: HostRuntime) -> Result<(), Fail> {
     each_failing_write_is_told(&rt, Over::Decode)
 }
 
-/// Encodes a capture of 27 bytes in pieces of one byte (a request, a reset, and the request again), and decodes what is
-/// written: it is the capture's front of that length.
-fn encodes<R: Abort + AllocGlobal>(
+/// Runs a job that writes batches, over a capture in pieces of one byte, and decodes what it writes: it is `back`.
+fn comes_back<R: Abort + AllocGlobal>(
     rt: &R,
+    job: &[&str],
+    capture: &[u8],
     failing: Failing<'_>,
-    front: usize,
+    back: &[u8],
     status: u8,
-) -> Result<(), Fail>
-    requires { front ≤ 27 }
-{
-    let ran = run_job(rt.alloc(), &["encode", "logs"], &DECODED, 1, failing)?;
+) -> Result<(), Fail> {
+    let ran = run_job(rt.alloc(), job, capture, 1, failing)?;
     assert!(rt; ran.err.bytes().is_empty());
     assert_eq!(rt; ran.status, status);
     let left = Left {
-        out: &DECODED[..front],
+        out: back,
         err: "",
         status: 0,
     };
@@ -294,6 +293,20 @@ fn encodes<R: Abort + AllocGlobal>(
         NONE,
         left,
     )
+}
+
+/// Encodes a capture of 27 bytes (a request, a reset, and the request again), and decodes what is written: it is the
+/// capture's front of that length.
+fn encodes<R: Abort + AllocGlobal>(
+    rt: &R,
+    failing: Failing<'_>,
+    front: usize,
+    status: u8,
+) -> Result<(), Fail>
+    requires { front ≤ 27 }
+{
+    let back = &DECODED[..front];
+    comes_back(rt, &["encode", "logs"], &DECODED, failing, back, status)
 }
 
 #[test]
@@ -332,8 +345,8 @@ fn each_failing_write_leaves_whole_batches(rt: HostRuntime) -> Result<(), Fail> 
 /// What is read of a batch of which nothing is kept, a reset, and such a batch again: two requests without groups.
 const FILTERED: [u8; 15] = [0, 0, 0, 0, 0, 2, 0, 0, 0, 0, 0, 0, 0, 0, 0];
 
-/// Filters the capture of 549 bytes in pieces of one byte, so that nothing of its batches is kept, and decodes what is written:
-/// it is the front of that length.
+/// Filters the capture of 549 bytes, so that nothing of its batches is kept, and decodes what is written: it is the front of
+/// that length.
 fn filters<R: Abort + AllocGlobal>(
     rt: &R,
     failing: Failing<'_>,
@@ -343,22 +356,8 @@ fn filters<R: Abort + AllocGlobal>(
     requires { front ≤ 15 }
 {
     let words = ["filter", "logs", "item", "k", "x"];
-    let ran = run_job(rt.alloc(), &words, &capture(rt.alloc())?, 1, failing)?;
-    assert!(rt; ran.err.bytes().is_empty());
-    assert_eq!(rt; ran.status, status);
-    let left = Left {
-        out: &FILTERED[..front],
-        err: "",
-        status: 0,
-    };
-    runs(
-        rt,
-        &["decode", "logs"],
-        ran.out.bytes(),
-        1 << 16,
-        NONE,
-        left,
-    )
+    let capture = capture(rt.alloc())?;
+    comes_back(rt, &words, &capture, failing, &FILTERED[..front], status)
 }
 
 #[test]
