@@ -1,5 +1,6 @@
 pub mod BatchDefects
 pub mod BatchFields
+pub mod Buffers
 pub mod Cuts
 pub mod Decided
 pub mod Events
@@ -9,5 +10,6 @@ pub mod OneCapture
 pub mod SomeCapture
 pub mod StatusDefects
 pub mod Stepping
+pub mod Waiting
 pub mod WrittenBatch
 pub mod WrittenStatus

@@ -3,6 +3,7 @@ pub mod Batch
 pub mod BatchInside
 pub mod BatchScanning
 pub mod BatchWriting
+pub mod Buffering
 pub mod Capture
 pub mod Cutting
 pub mod Deciding

@@ -17,6 +17,6 @@ capture_limit = 2 ^ 40
 abbrev pub read_ahead : ℕ
 read_ahead = 65536
 
--- and the bytes that it holds, those handed out among them, are at most this many
+-- and its buffer, with what was handed out and room for reads, has at most this many bytes
 abbrev pub most_held : ℕ
 most_held = 2 * (longest_frame + frame_head) + read_ahead

@@ -26,7 +26,7 @@ pub record Reading : Type 0 where
   pub frame : Option Frame
   -- the end that was returned
   pub ended : Option Step
-  -- how many bytes it holds in memory: those that are kept, and some of those that were handed out
+  -- how long its buffer is: the bytes that are kept, some of those that were handed out, and room for reads
   pub held : ℕ
 
 -- the bytes after the frames handed out, where they are known: those kept, and those that the source has left
@@ -110,7 +110,7 @@ KeepsRest new (Ok (step.Damage damage)) = ⊤
 KeepsRest new (Err refusal) = ⊤
 
 -- What a step leaves: all that was taken from the source is more than what was handed out before by one frame and read_ahead
--- bytes at most; those that are kept are one frame and read_ahead bytes at most; and few more are held in memory.
+-- bytes at most; those that are kept are one frame and read_ahead bytes at most; and the buffer isn't much longer.
 pub record KeepsFew (old new : Reading) : Type 0 where
   pub taken : new.handed + length new.kept ≤ old.handed + (longest_frame + frame_head + read_ahead)
   pub lean : IsLean new.kept

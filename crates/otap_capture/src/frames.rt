@@ -1,30 +1,27 @@
 //! The frames of a capture, from a source that gives them in any pieces.
-ghost use Rattle.std.specs.Prelude.{◌≡◌, ◌+◌, ◌++◌, ◌*◌, ◌<◌, ◌≤◌, [], drop, length, IfNone, IfSome, None, Some, OnOk, OnErr, Ok, false};
+ghost use Rattle.std.specs.Prelude.{◌≡◌, ◌+◌, ◌++◌, [], IfNone, IfSome, None, Some, OnOk, OnErr, Ok, false};
 ghost use Rattle.std.specs.Option.{option_map};
 ghost use Rattle.otap_capture.specs.Capture.{frame_of};
 ghost use Rattle.otap_capture.specs.Reading.{ahead, ReadsOn, EndsAgain, StepCounts, KeepsFew, KeepsRest, Asked, TellsWhether, IsWaiting};
-ghost use Rattle.otap_capture.specs.Cutting.{StandsAt, Cuts, Fills, IsDecided, KeepsMore, SameBut, GivesPiece};
+ghost use Rattle.otap_capture.specs.Cutting.{StandsAt, Cuts, Fills, IsDecided, KeepsMore, SameBut};
 
+use crate::buffer::Buffer;
 use crate::frame::{Damage, FRAME_HEAD, Frame, FramesRefusal, Step};
 use crate::front::{Flag, NextFrame, front_at};
 use crate::outside::Source;
 use std::alloc::Global;
 use std::marker::Model;
 
-/// How many bytes a read asks for.
-pub(crate) const ROOM: usize = 1 << 16;
-
 /// The frames of a capture, as they come. It keeps the bytes of one frame and at most 65,536 bytes
 /// more, and asks the source only where the next step isn't decided by the bytes that it keeps.
 #[derive(Drop)]
 pub struct Frames {
-    bytes: Vec<u8>,
+    /// The bytes that are kept. Those of the last frame end where they begin.
+    buffer: Buffer,
     /// How many bytes the frames handed out so far have.
     handed: u64,
     /// Where the bytes of the last frame begin, after its head.
     begin: usize,
-    /// Where it ends, and the bytes that are kept begin.
-    place: usize,
     last: Option<Flag>,
     complete: bool,
     ended: Option<Step>,
@@ -48,10 +45,13 @@ impl Frames {
         ensures { result ≡ record { handed = 0; kept = []; complete = false; frame = None; ended = None; held = 0 } }
     {
         Frames {
-            bytes: Vec::new(alloc),
+            buffer: Buffer {
+                bytes: Vec::new(alloc),
+                place: 0,
+                filled: 0,
+            },
             handed: 0,
             begin: 0,
-            place: 0,
             last: None,
             complete: false,
             ended: None,
@@ -93,7 +93,9 @@ impl Frames {
     {
         match self.last {
             None => None,
-            Some(Flag::Message) => Some(Frame::Message(&self.bytes[self.begin..self.place])),
+            Some(Flag::Message) => Some(Frame::Message(
+                &self.buffer.bytes[self.begin..self.buffer.place],
+            )),
             Some(Flag::Packed) => Some(Frame::Packed),
             Some(Flag::Reset) => Some(Frame::Reset),
         }
@@ -103,7 +105,7 @@ impl Frames {
     fn front(&self) -> NextFrame
         ensures { StandsAt self.now.handed self.now.kept result }
     {
-        front_at(self.handed, &self.bytes[self.place..])
+        front_at(self.handed, self.buffer.kept())
     }
 
     /// Reads until the next step is decided.
@@ -115,7 +117,7 @@ impl Frames {
         ensures asked { Asked self.old self.new result }
         ensures few { KeepsFew self.old self.new }
     {
-        let _ = &self.bytes;
+        let _ = &self.buffer;
         'pieces: while self.asks() {
             self.read_more(source)?;
         }
@@ -132,24 +134,10 @@ impl Frames {
         ensures few { KeepsFew self.old self.new }
         ensures count { StepCounts (S.faults source.old) (S.faults source.new) result }
     {
-        self.let_go();
-        self.complete = read_piece(&mut self.bytes, source)?;
+        self.buffer.let_go();
+        self.begin = self.buffer.place;
+        self.complete = self.buffer.read_piece(source)?;
         Ok(())
-    }
-
-    /// Gives up the bytes that were handed out, where they are at least as many as those that are kept.
-    /// So all bytes that are moved by this are at most those that were read.
-    fn let_go(&mut self)
-        requires { self.old.frame ≡ None }
-        ensures same { SameBut self.old self.new }
-        ensures held { self.new.held ≤ 2 * length self.old.kept }
-    {
-        let kept = self.bytes.len() - self.place;
-        if kept <= self.place {
-            remove_front(&mut self.bytes, self.place);
-            self.begin = 0;
-            self.place = 0;
-        }
     }
 
     /// Takes the next step over the bytes that are kept.
@@ -161,8 +149,8 @@ impl Frames {
     {
         match self.front() {
             NextFrame::Frame(flag, size) => {
-                self.begin = self.place + FRAME_HEAD;
-                self.place = self.begin + size;
+                self.begin = self.buffer.place + FRAME_HEAD;
+                self.buffer.place = self.begin + size;
                 self.handed += (FRAME_HEAD + size) as u64;
                 self.last = Some(flag);
                 Step::Frame
@@ -179,43 +167,4 @@ impl Frames {
             }
         }
     }
-}
-
-/// Takes the first bytes away, which are at least as many as those that stay.
-fn remove_front(bytes: &mut Vec<u8>, count: usize)
-    requires there { count ≤ length bytes.old.items }
-    requires apart { length bytes.old.items ≤ count + count }
-    ensures { bytes.new.items ≡ drop count bytes.old.items }
-{
-    let kept = bytes.len() - count;
-    move_front(bytes.as_mut_slice(), count, kept);
-    bytes.truncate(kept);
-}
-
-/// Copies the last bytes to the front.
-fn move_front(bytes: &mut [u8], count: usize, kept: usize)
-    requires whole { count + kept ≡ length bytes.old }
-    requires apart { kept ≤ count }
-    ensures { bytes.new ≡ drop count bytes.old ++ drop kept bytes.old }
-{
-    let (front, back) = bytes.split_at_mut(count);
-    let (place, _rest) = front.split_at_mut(kept);
-    place.copy_from_slice(back);
-}
-
-/// Appends what one read of the source gives. Returns whether the source is at its end. Room is made
-/// before the read, so that a refusal loses nothing. It stays a call of its own, so that a step that reads nothing
-/// doesn't touch the stack of its room.
-#[inline(never)]
-fn read_piece<S: Source>(bytes: &mut Vec<u8>, source: &mut S) -> Result<bool, FramesRefusal>
-    ensures piece { GivesPiece bytes.old.items bytes.new.items (S.left source.old) (S.left source.new) result }
-    ensures count { StepCounts (S.faults source.old) (S.faults source.new) result }
-{
-    let mut room = [0; ROOM];
-    bytes.reserve(ROOM)?;
-    let Ok(count) = source.read(&mut room) else {
-        return Err(FramesRefusal::Source);
-    };
-    bytes.extend_from_slice(&room[..count])?;
-    Ok(count == 0)
 }

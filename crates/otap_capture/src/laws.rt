@@ -6,8 +6,8 @@ ghost use Rattle.otap_capture.specs.Capture as frame;
 ghost use Rattle.otap_capture.specs.Deciding.{IsOpen};
 ghost use Rattle.otap_capture.specs.Limits.{frame_head, read_ahead};
 
+use crate::buffer::ROOM;
 use crate::frame::{Damage, FRAME_HEAD, MAX_CAPTURE, MAX_FRAME};
-use crate::frames::ROOM;
 
 /// Every list of bytes has a capture.
 pub fn some_capture()

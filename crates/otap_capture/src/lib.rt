@@ -5,6 +5,7 @@ mod adapters;
 mod batch;
 mod batch_laws;
 mod batch_writer;
+mod buffer;
 mod event;
 mod event_laws;
 mod frame;

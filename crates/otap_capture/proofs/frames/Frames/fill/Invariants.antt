@@ -1,8 +1,7 @@
-use Rattle.std.proofs.Common.{◌≡◌, ◌⊎◌, suc, ◌+◌, ◌-◌, length, None}
-use Rattle.std.specs.Prelude.{if◌then◌else◌}
-use Rattle.otap_capture.specs.Capture.{longest_frame}
+use Rattle.std.proofs.Common.{◌≡◌, ◌⊎◌, None}
 use Rattle.otap_capture.specs.Cutting.{Fills}
 use Rattle.otap_capture.specs.Reading.{ahead, IsWaiting, KeepsFew}
+use Rattle.otap_capture.proofs.Waiting.{still_to_take}
 use Rattle.otap_capture.proofs.frames.Frames.fill.Given as goal
 
 abbrev pub invariant-pieces : goal.invariant-pieces
@@ -15,4 +14,4 @@ invariant-pieces g l = record {
 }
 
 abbrev pub decreases-pieces : goal.decreases-pieces
-decreases-pieces g l = if l.self.complete then 0 else suc (longest_frame + 5 - length l.self.kept)
+decreases-pieces g l = still_to_take l.self
