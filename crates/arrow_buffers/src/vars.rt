@@ -4,6 +4,7 @@ ghost use Rattle.std.specs.Str.{is_utf8};
 ghost use Rattle.arrow_buffers.specs.Vars.{vars_of, row_span, is_text_at, utf8_check};
 
 use crate::{Bits, BufferFault, offsets};
+use lists::as_utf8;
 use std::marker::Model;
 
 /// Values that differ in length, each from one offset to the next (Arrow columnar format,
@@ -94,8 +95,8 @@ impl<'a> Vars<'a> {
 fn is_utf8(bytes: &[u8]) -> bool
     ensures { result ≡ is_utf8 bytes.now }
 {
-    match std::str::from_utf8(bytes) {
-        Ok(_) => true,
-        Err(_) => false,
+    match as_utf8(bytes) {
+        Some(_text) => true,
+        None => false,
     }
 }

@@ -7,6 +7,7 @@ ghost use Rattle.cbor_values.specs.Reading.{chunks_at, letters_at, octets_chunk_
 
 use crate::heads::{Head, after_break, part, read_head};
 use crate::refusal::CborRefusal;
+use lists::as_utf8;
 use otlp_model::{Octets, Text};
 use std::alloc::{AllocError, Global};
 
@@ -137,8 +138,8 @@ pub(crate) fn letters(len: u64, bytes: &[u8]) -> Result<(&str, &[u8]), CborRefus
     ensures exact { Gives (λ x. (x.0.now, x.1.now)) result (letters_at len bytes.now) }
 {
     let (part, rest) = part(len, bytes)?;
-    match str::from_utf8(part) {
-        Ok(letters) => Ok((letters, rest)),
-        Err(_) => Err(CborRefusal::BadUtf8),
+    match as_utf8(part) {
+        Some(letters) => Ok((letters, rest)),
+        None => Err(CborRefusal::BadUtf8),
     }
 }

@@ -1,4 +1,5 @@
 pub mod AllBytes
+pub mod Ascii
 pub mod Contained
 pub mod Equals
 pub mod Every

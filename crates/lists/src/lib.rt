@@ -7,7 +7,9 @@
 mod items;
 mod octets;
 mod text;
+mod utf8;
 
 pub use items::Items;
 pub use octets::Octets;
 pub use text::Text;
+pub use utf8::as_utf8;

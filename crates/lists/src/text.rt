@@ -1,6 +1,7 @@
 ghost use Rattle.std.specs.Prelude.{◌≡◌, [], ◌++◌, ◌≤◌, ◌↔◌, length, take, IsTrue, IfOk, OnOk, OnErr, IsUtf8, encode_utf8};
 ghost use Rattle.std.specs.Option.{SomeIff};
 
+use crate::utf8::as_utf8;
 use std::alloc::{AllocError, Global};
 use std::marker::Model;
 
@@ -83,9 +84,9 @@ impl Text {
     pub fn from_utf8(alloc: Global, part: &[u8]) -> Result<Option<Text>, AllocError>
         ensures { IfOk result (λ text. SomeIff text (IsUtf8 part.now) part.now) }
     {
-        match str::from_utf8(part) {
-            Ok(part) => Ok(Some(Text::from_str(alloc, part)?)),
-            Err(_) => Ok(None),
+        match as_utf8(part) {
+            Some(part) => Ok(Some(Text::from_str(alloc, part)?)),
+            None => Ok(None),
         }
     }
 

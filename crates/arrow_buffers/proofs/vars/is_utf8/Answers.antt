@@ -3,9 +3,9 @@ use Rattle.std.proofs.lemmas.Str.{is_utf8-from_IsUtf8, IsUtf8-from_is_utf8}
 use Rattle.std.proofs.lemmas.Bool.{false_from_ne_true}
 use Rattle.arrow_buffers.proofs.vars.is_utf8.Goals as goal
 
-pub returns-in-Ok : goal.returns-in-Ok
-returns-in-Ok c = sym (is_utf8-from_IsUtf8 _ c.in-Ok.ensures.cases.1)
+pub returns-in-Some : goal.returns-in-Some
+returns-in-Some c = sym (is_utf8-from_IsUtf8 _ c.in-Some.ensures.1)
 
-pub returns-in-Err : goal.returns-in-Err
-returns-in-Err c =
-    sym (false_from_ne_true _ (λ e. c.in-Err.ensures.cases.0 (IsUtf8-from_is_utf8 _ e)))
+pub returns-in-None : goal.returns-in-None
+returns-in-None c =
+    sym (false_from_ne_true _ (λ e. c.in-None.ensures (IsUtf8-from_is_utf8 _ e)))
