@@ -6,7 +6,7 @@ use Rattle.arrow_buffers.specs.Lists.{is_null}
 use Rattle.arrow_buffers.specs.Offsets.{offset_at}
 use Rattle.arrow_buffers.proofs.EachBelow.{all_below-fails}
 use Rattle.arrow_buffers.proofs.Spans.{span-fits}
-use Rattle.arrow_buffers.proofs.lists.Lists.is_full.Goals as goal
+use Rattle.arrow_buffers.proofs.list_cells.Lists.is_full.Goals as goal
 
 pub bounds-start-requires : goal.bounds-start-requires
 bounds-start-requires c =

@@ -3,7 +3,7 @@ use Rattle.std.proofs.lemmas.Grind.{common_steps}
 use Rattle.arrow_buffers.specs.Below.{all_below}
 use Rattle.arrow_buffers.specs.Lists.{nulls_check, is_full_at}
 use Rattle.arrow_buffers.proofs.EachBelow.{all_below-fails}
-use Rattle.arrow_buffers.proofs.lists.Lists.check_nulls.Goals as goal
+use Rattle.arrow_buffers.proofs.list_cells.Lists.check_nulls.Goals as goal
 
 pub returns-then-not-is_full_at : goal.returns-then-not-is_full_at
 unfolding nulls_check

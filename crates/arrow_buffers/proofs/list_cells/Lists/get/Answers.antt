@@ -1,5 +1,5 @@
 use Rattle.arrow_buffers.proofs.Spans.{span-fits}
-use Rattle.arrow_buffers.proofs.lists.Lists.get.Goals as goal
+use Rattle.arrow_buffers.proofs.list_cells.Lists.get.Goals as goal
 
 pub span-requires : goal.span-requires
 span-requires c =
