@@ -1,5 +1,7 @@
 pub mod Passing
 pub mod Folded
+pub mod ShortFields
+pub mod ShortValues
 pub mod Lists
 pub mod Returning
 pub mod Chain

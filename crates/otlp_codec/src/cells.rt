@@ -12,6 +12,7 @@ ghost use Rattle.otlp_codec.specs.Limits.{level_limit};
 ghost use Rattle.otlp_codec.specs.PartRefusals.{RefusesValue};
 
 use crate::refusal::ReadRefusal;
+use lists::as_utf8;
 use otlp_model::{Octets, Text};
 use otlp_wire::Wire;
 use std::alloc::Global;
@@ -92,7 +93,7 @@ pub(crate) fn set_text(alloc: Global, to: &mut Text, value: &Wire<'_>) -> Result
     let Wire::Bytes(part) = value else {
         return Err(ReadRefusal::BadMessage);
     };
-    let Ok(part) = str::from_utf8(part) else {
+    let Some(part) = as_utf8(part) else {
         return Err(ReadRefusal::BadUtf8);
     };
     to.set(alloc, part)?;
@@ -106,13 +107,9 @@ pub(crate) fn text_of(alloc: Global, value: &Wire<'_>) -> Result<Text, ReadRefus
     ensures fine { IfOk result (λ text. IsUtf8 text) }
     ensures fault { IfErr result (RefusesValue kinds.Text level_limit (value_of value.now)) }
 {
-    let Wire::Bytes(part) = value else {
-        return Err(ReadRefusal::BadMessage);
-    };
-    match Text::from_utf8(alloc, part)? {
-        Some(text) => Ok(text),
-        None => Err(ReadRefusal::BadUtf8),
-    }
+    let mut text = Text::new(alloc);
+    set_text(alloc, &mut text, value)?;
+    Ok(text)
 }
 
 /// Reads an id that has no bytes, or exactly this number.

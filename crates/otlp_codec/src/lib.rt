@@ -14,6 +14,7 @@ mod points;
 mod refusal;
 mod request;
 mod shapes;
+mod short;
 mod spans;
 mod values;
 mod writing;

@@ -13,12 +13,15 @@ ghost use Rattle.otlp_codec.specs.Steps.{array_at, map_at, array_step, map_step,
 
 use crate::cells::{set_text, text_of};
 use crate::refusal::ReadRefusal;
+use crate::short::{only_field, short_field, short_pair};
 use otlp_messages::{MARKS, Message, row_of};
 use otlp_model::{Items, Octets, Pair, Text, Value};
 use otlp_wire::{Field, Fields, Wire};
 use std::alloc::Global;
 
 /// Reads an `AnyValue` into an empty one. At most `levels` levels of members may be below it.
+///
+/// Most values are a short text, which is read without a loop.
 #[cycle(value)]
 pub(crate) fn fill_value(
     alloc: Global,
@@ -30,6 +33,31 @@ pub(crate) fn fill_value(
     ensures value { OnOk result (IsFine messages.AnyValue levels bytes.now × (value.new ≡ any_value_at levels bytes.now)) }
     ensures fault { IfErr result (Refuses messages.AnyValue levels bytes.now) }
 {
+    match short_field(1, bytes) {
+        Some((text, [])) => {
+            *value = Value::Str(text_of(alloc, &Wire::Bytes(text))?);
+            Ok(())
+        }
+        _ => fill_value_by_field(alloc, levels, value, bytes),
+    }
+}
+
+/// The same for any `AnyValue`: its only field, or one field after the other.
+#[cycle(value)]
+#[inline(never)]
+fn fill_value_by_field(
+    alloc: Global,
+    levels: u8,
+    value: &mut Value,
+    bytes: &[u8],
+) -> Result<(), ReadRefusal>
+    requires { value.old ≡ values.Empty }
+    ensures value { OnOk result (IsFine messages.AnyValue levels bytes.now × (value.new ≡ any_value_at levels bytes.now)) }
+    ensures fault { IfErr result (Refuses messages.AnyValue levels bytes.now) }
+{
+    if let Some(field) = only_field(bytes) {
+        return take_member(alloc, levels, value, &field);
+    }
     let mut seen = [false; MARKS];
     'fields: for next in Fields::new(bytes) {
         let Ok(field) = next else {
@@ -90,8 +118,30 @@ fn read_map(alloc: Global, levels: u8, bytes: &[u8]) -> Result<Items<Pair>, Read
 }
 
 /// Reads a `KeyValue` into an empty one.
+///
+/// Most pairs are a short key and a short value and nothing else, which are read without a loop.
 #[cycle(value)]
 pub(crate) fn fill_pair(
+    alloc: Global,
+    levels: u8,
+    pair: &mut Pair,
+    bytes: &[u8],
+) -> Result<(), ReadRefusal>
+    requires { pair.old ≡ no_pair }
+    ensures value { OnOk result (IsFine messages.KeyValue levels bytes.now × (pair.new ≡ key_value_at levels bytes.now)) }
+    ensures fault { IfErr result (Refuses messages.KeyValue levels bytes.now) }
+{
+    let Some((key, value)) = short_pair(bytes) else {
+        return fill_pair_by_field(alloc, levels, pair, bytes);
+    };
+    set_text(alloc, &mut pair.key, &Wire::Bytes(key))?;
+    fill_value(alloc, levels, &mut pair.value, value)
+}
+
+/// The same for any `KeyValue`, one field after the other.
+#[cycle(value)]
+#[inline(never)]
+fn fill_pair_by_field(
     alloc: Global,
     levels: u8,
     pair: &mut Pair,

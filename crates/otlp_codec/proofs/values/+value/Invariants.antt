@@ -9,13 +9,16 @@ use Rattle.otlp_codec.specs.Steps.{array_at, map_at, no_pair, pair_step, array_s
 use Rattle.otlp_codec.proofs.values.+value.Given as goal
 
 abbrev pub decreases-fill_value : goal.decreases-fill_value
-decreases-fill_value l = 6 * length l.bytes.now + 1
+decreases-fill_value l = 6 * length l.bytes.now + 2
+
+abbrev pub decreases-fill_value_by_field : goal.decreases-fill_value_by_field
+decreases-fill_value_by_field l = 6 * length l.bytes.now + 1
 
 abbrev pub decreases-take_member : goal.decreases-take_member
 decreases-take_member l = 6 * part_len (value_of l.field.now.value) + 4
 
-abbrev pub invariant-fill_value-fields : goal.invariant-fill_value-fields
-invariant-fill_value-fields l = PassesFields messages.AnyValue l.levels (any_in (array_at l.levels) (map_at l.levels)) Empty l.bytes l.seen l.next-iterator l.value
+abbrev pub invariant-fill_value_by_field-fields : goal.invariant-fill_value_by_field-fields
+invariant-fill_value_by_field-fields l = PassesFields messages.AnyValue l.levels (any_in (array_at l.levels) (map_at l.levels)) Empty l.bytes l.seen l.next-iterator l.value
 
 abbrev pub decreases-read_array : goal.decreases-read_array
 decreases-read_array l = 6 * length l.bytes.now + 1
@@ -36,10 +39,13 @@ abbrev pub invariant-read_map-fields : goal.invariant-read_map-fields
 invariant-read_map-fields l = PassesFields messages.KeyValueList l.levels (map_step l.levels) [] l.bytes l.seen l.next-iterator l.pairs
 
 abbrev pub decreases-fill_pair : goal.decreases-fill_pair
-decreases-fill_pair l = 6 * length l.bytes.now + 1
+decreases-fill_pair l = 6 * length l.bytes.now + 2
+
+abbrev pub decreases-fill_pair_by_field : goal.decreases-fill_pair_by_field
+decreases-fill_pair_by_field l = 6 * length l.bytes.now + 1
 
 abbrev pub decreases-take_pair : goal.decreases-take_pair
 decreases-take_pair l = 6 * part_len (value_of l.field.now.value) + 4
 
-abbrev pub invariant-fill_pair-fields : goal.invariant-fill_pair-fields
-invariant-fill_pair-fields l = PassesFields messages.KeyValue l.levels (pair_step l.levels) no_pair l.bytes l.seen l.next-iterator l.pair
+abbrev pub invariant-fill_pair_by_field-fields : goal.invariant-fill_pair_by_field-fields
+invariant-fill_pair_by_field-fields l = PassesFields messages.KeyValue l.levels (pair_step l.levels) no_pair l.bytes l.seen l.next-iterator l.pair
