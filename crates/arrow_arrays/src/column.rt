@@ -78,6 +78,13 @@ impl<'a> ColumnView<'a> {
         self.own.is_empty() && self.above.is_empty() && self.top.is_empty()
     }
 
+    /// Whether it has no cells, as a column that is missing.
+    pub fn has_no_rows(&self) -> bool
+        ensures { result ≡ true → (row : ℕ) → cell_seen self.now row ≡ None }
+    {
+        self.rows == 0
+    }
+
     /// The bytes of a row's cell, as `cell` returns them. Where the column is known to be whole no
     /// bitmap is looked at.
     #[inline(always)]

@@ -268,7 +268,8 @@ fn each_failing_write_leaves_a_front(rt: HostRuntime) -> Result<(), Fail> {
     each_failing_write_is_told(&rt, Over::Decode)
 }
 
-/// Runs a job that writes batches, over a capture in pieces of one byte, and decodes what it writes: it is `back`.
+/// Runs a job that writes batches, over a capture in pieces of one byte, and decodes what it wrote with `decode logs`, which gives
+/// `back`.
 fn comes_back<R: Abort + AllocGlobal>(
     rt: &R,
     job: &[&str],

@@ -90,17 +90,17 @@ parents_run _ e = absurd cc
 -- the value of an attribute begins at the third column
 pub has_value : (kind : Kind) → has_attributes kind ≡ true → HasValueAt kind 2
 unfolding attrs deep_attrs
-has_value table.ResourceAttrs e = record { bases = refl }
-has_value table.ScopeAttrs e = record { bases = refl }
-has_value table.LogAttrs e = record { bases = refl }
-has_value table.SpanAttrs e = record { bases = refl }
-has_value table.EventAttrs e = record { bases = refl }
-has_value table.LinkAttrs e = record { bases = refl }
-has_value table.NumberPointAttrs e = record { bases = refl }
-has_value table.SummaryPointAttrs e = record { bases = refl }
-has_value table.HistPointAttrs e = record { bases = refl }
-has_value table.NumberExemplarAttrs e = record { bases = refl }
-has_value table.HistExemplarAttrs e = record { bases = refl }
+has_value table.ResourceAttrs e = record { names = refl; bases = refl }
+has_value table.ScopeAttrs e = record { names = refl; bases = refl }
+has_value table.LogAttrs e = record { names = refl; bases = refl }
+has_value table.SpanAttrs e = record { names = refl; bases = refl }
+has_value table.EventAttrs e = record { names = refl; bases = refl }
+has_value table.LinkAttrs e = record { names = refl; bases = refl }
+has_value table.NumberPointAttrs e = record { names = refl; bases = refl }
+has_value table.SummaryPointAttrs e = record { names = refl; bases = refl }
+has_value table.HistPointAttrs e = record { names = refl; bases = refl }
+has_value table.NumberExemplarAttrs e = record { names = refl; bases = refl }
+has_value table.HistExemplarAttrs e = record { names = refl; bases = refl }
 has_value _ e = absurd cc
 
 -- the cells of a value, one by one

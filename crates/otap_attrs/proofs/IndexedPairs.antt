@@ -22,6 +22,13 @@ weight_at : (rows : List (List Cell)) (row : ℕ) → row < length rows
     → min (weight_of_pair (pair_in (get_or (map (drop 1) rows) row []))) (2 ^ 63) ≡ pair_weight_in (get_or rows row [])
 weight_at rows row within = ap (λ (cells : List Cell). min (weight_of_pair (pair_in cells)) (2 ^ 63)) (get_or-map (drop 1) rows row [] [] within)
 
+-- the weight of a row's pair among those that are known
+pub weight_known : (rows : List (List Cell)) (weights : List ℕ) (row : ℕ) → weights ≡ map pair_weight_in rows → row < length (map (drop 1) rows)
+    → get_or weights row 0 ≡ min (weight_of_pair (pair_in (get_or (map (drop 1) rows) row []))) (2 ^ 63)
+weight_known rows weights row are inside =
+    let within : row < length rows = omega (arith, inside, length-map rows (drop 1)) in
+    ap (λ ws. get_or ws row 0) are ∙ get_or-map pair_weight_in rows row [] 0 within ∙ sym (weight_at rows row within)
+
 pub weights_more : (rows : List (List Cell)) (row weight : ℕ) (old new : List ℕ) → row < length rows
     → weight ≡ min (weight_of_pair (pair_in (get_or (map (drop 1) rows) row []))) (2 ^ 63) → new ≡ old ++ weight ∷ []
     → old ≡ map pair_weight_in (take row rows) → new ≡ map pair_weight_in (take (row + 1) rows)

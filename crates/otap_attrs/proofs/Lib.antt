@@ -3,6 +3,7 @@ pub mod AttributeCells
 pub mod AttributeRows
 pub mod AttributesWeighed
 pub mod CellFits
+pub mod FactsFound
 pub mod FilledTables
 pub mod FoundLists
 pub mod FrontOrder

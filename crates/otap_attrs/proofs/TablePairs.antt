@@ -10,9 +10,9 @@ use Rattle.otap_cells.specs.declared.payload.Kind.{Kind}
 use Rattle.otap_cells.specs.declared.payload.Kind.TheVariants as table
 use Rattle.otap_cells.specs.declared.profile.Coding.{Coding}
 use Rattle.otap_cells.specs.Columns.{is_id_at, attrs, deep_attrs}
-use Rattle.otap_cells.specs.ColumnIds.{HasIdFault, HasNullParent, id_in, stored_in}
+use Rattle.otap_cells.specs.ColumnIds.{HasNullParent, id_in, stored_in}
 use Rattle.otap_cells.specs.Continuing.{continues_in, has_attributes}
-use Rattle.otap_cells.specs.GivenIds.{HasIds, ids_in}
+use Rattle.otap_cells.specs.GivenIds.{ColumnDefect, HasIds, ids_in}
 use Rattle.otap_cells.specs.Ids.{IdsAfter}
 use Rattle.otap_cells.specs.Tables.{Table, coding_in, column_in, greatest_in}
 use Rattle.otap_cells.proofs.IdLaws.{one_list, stands_fits, undone_stands}
@@ -80,12 +80,12 @@ values_more rows column row below here k less why bad =
 -- ---- what is wrong, and what isn't
 
 module _ (t : Table) (known parents : List (Option ℕ)) (are : HasIds t 0 parents) where
-  no_fault : (HasNullParent t 0 → ⊥) → (fault : IdFault) → HasIdFault t 0 (continues_in t) fault → ⊥
+  no_fault : (HasNullParent t 0 → ⊥) → (fault : IdFault) → ColumnDefect fault t 0 → ⊥
   no_fault there NullParent lacking = there lacking
   no_fault there PastType past = past.1 parents are
   no_fault there Duplicate never = never
 
-  no_orphan : (OrphanIn parents known → ⊥) → HasOrphan t known → ⊥
+  no_orphan : (OrphanIn parents known → ⊥) → HasOrphan t 0 known → ⊥
   no_orphan none found =
       none (subst (λ (ids : List (Option ℕ)). OrphanIn ids known) (ids_are t 0 found.parents found.are ∙ sym (ids_are t 0 parents are)) found.orphan)
 

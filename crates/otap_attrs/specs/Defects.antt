@@ -1,9 +1,7 @@
 -- What may be wrong with a table of attributes.
 use Rattle.std.specs.Prelude.{ℕ, ◌<◌, length, drop, List, [], Option, Some, Contains}
 use Rattle.std.specs.List.{slice_index_or}
-use Rattle.otap_cells.specs.ColumnIds.{HasIdFault}
-use Rattle.otap_cells.specs.Continuing.{continues_in}
-use Rattle.otap_cells.specs.GivenIds.{HasIds}
+use Rattle.otap_cells.specs.GivenIds.{ColumnDefect, HasIds}
 use Rattle.otap_cells.specs.Tables.{Table}
 use Rattle.otap_attrs.specs.declared.refusal.RowRefusal.{RowRefusal}
 use Rattle.otap_attrs.specs.declared.refusal.RowRefusal.TheVariants as why
@@ -15,10 +13,10 @@ pub record OrphanIn (parents ids : List (Option ℕ)) : Type 0 where
   pub named : Contains parents (Some parent)
   pub missing : Contains ids (Some parent) → ⊥
 
--- a row names a parent that isn't among ids
-pub record HasOrphan (t : Table) (ids : List (Option ℕ)) : Type 0 where
+-- a row names in this column a parent that isn't among ids
+pub record HasOrphan (t : Table) (column : ℕ) (ids : List (Option ℕ)) : Type 0 where
   pub parents : List (Option ℕ)
-  pub are : HasIds t 0 parents
+  pub are : HasIds t column parents
   pub orphan : OrphanIn parents ids
 
 -- a row has a wrong value, whose columns begin at this one
@@ -29,8 +27,8 @@ pub record WrongValue (t : Table) (column : ℕ) (wrong : RowRefusal) : Type 0 w
 
 -- WHAT IS WRONG with a table of attributes whose parents are to be among these ids
 abbrev pub PairDefect : Table → List (Option ℕ) → RowRefusal → Type 0
-PairDefect t ids (why.Ids fault) = HasIdFault t 0 (continues_in t) fault
-PairDefect t ids why.Orphan = HasOrphan t ids
+PairDefect t ids (why.Ids fault) = ColumnDefect fault t 0
+PairDefect t ids why.Orphan = HasOrphan t 0 ids
 PairDefect t ids why.BadValueType = WrongValue t 2 why.BadValueType
 PairDefect t ids (why.BadCbor refusal) = WrongValue t 2 (why.BadCbor refusal)
 PairDefect t ids _ = ⊥

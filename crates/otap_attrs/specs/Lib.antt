@@ -1,4 +1,5 @@
 pub mod Defects
+pub mod Facts
 pub mod Fronts
 pub mod Index
 pub mod Indexing

@@ -1,5 +1,5 @@
 -- Values in cells: the type, then a cell for a text, an integer, a double, a truth value, bytes, and a nested value as CBOR.
-use Rattle.std.specs.Prelude.{◌≡◌, ℕ, pos, ◌<◌, ◌==◌, ◌||◌, ◌⊎◌, if◌then◌else◌, List, [], ◌∷◌, map, take, drop, Some, unwrap_or}
+use Rattle.std.specs.Prelude.{◌≡◌, ℕ, pos, ◌<◌, ◌==◌, ◌||◌, ◌⊎◌, if◌then◌else◌, List, [], ◌∷◌, ◌++◌, codes, map, take, drop, Some, unwrap_or}
 use Rattle.otlp_model.specs.declared.value.Value.{Value, out-Value}
 use Rattle.otlp_model.specs.declared.value.Value as values
 use Rattle.otlp_model.specs.declared.value.Value.TheOpen.{Value-F}
@@ -11,11 +11,13 @@ use Rattle.cbor_values.specs.declared.weighing.Nesting.TheVariants as nesting
 use Rattle.cbor_values.specs.Refusals.{Stands}
 use Rattle.cbor_values.specs.Weighing.{nesting_of}
 use Rattle.otap_cells.specs.declared.payload.Kind.{Kind}
+use Rattle.otap_cells.specs.declared.payload.Kind.TheVariants as table
 use Rattle.otap_cells.specs.declared.profile.Base.{Base}
 use Rattle.otap_cells.specs.declared.profile.Base.TheVariants as base
-use Rattle.otap_cells.specs.Cells.{Cell, null, number, bytes, bytes_in, nat_in, IsCellOf, cell_at}
+use Rattle.otap_cells.specs.ByName.{cell_of, cells_from}
+use Rattle.otap_cells.specs.Cells.{Cell, null, number, bytes, bytes_in, nat_in, IsCellOf}
 use Rattle.otap_cells.specs.Scalars.{text_cell, int_cell, bits_cell, flag_cell, int_in, bits_in, flag_in}
-use Rattle.otap_cells.specs.Columns.{ColumnSpec, columns_of}
+use Rattle.otap_cells.specs.Columns.{ColumnSpec, columns_of, own_attributes, own_values}
 use Rattle.otap_attrs.specs.declared.refusal.RowRefusal.{RowRefusal}
 use Rattle.otap_attrs.specs.declared.refusal.RowRefusal.TheVariants as row
 
@@ -27,19 +29,19 @@ value_bases = base.U8 ∷ base.Utf8 ∷ base.I64 ∷ base.Double ∷ base.Bool �
 
 -- the type of the value, and the bytes of a nested one
 abbrev pub value_type_in : List Cell → ℕ
-value_type_in cells = nat_in (cell_at cells 0)
+value_type_in cells = nat_in (cell_of own_values (codes "type") cells)
 
 abbrev pub nested_in : List Cell → List ℕ
-nested_in cells = bytes_in (cell_at cells 6)
+nested_in cells = bytes_in (cell_of own_values (codes "ser") cells)
 
 -- the value of a type
 abbrev pub value_of_type : ℕ → List Cell → Value
 value_of_type kind cells =
-    if kind == 1 then values.Str (bytes_in (cell_at cells 1))
-    else if kind == 2 then values.Int (int_in (cell_at cells 2))
-    else if kind == 3 then values.Double (bits_in (cell_at cells 3))
-    else if kind == 4 then values.Bool (flag_in (cell_at cells 4))
-    else if kind == 7 then values.Bytes (bytes_in (cell_at cells 5))
+    if kind == 1 then values.Str (bytes_in (cell_of own_values (codes "str") cells))
+    else if kind == 2 then values.Int (int_in (cell_of own_values (codes "int") cells))
+    else if kind == 3 then values.Double (bits_in (cell_of own_values (codes "double") cells))
+    else if kind == 4 then values.Bool (flag_in (cell_of own_values (codes "bool") cells))
+    else if kind == 7 then values.Bytes (bytes_in (cell_of own_values (codes "bytes") cells))
     else if kind == 5 || kind == 6 then unwrap_or (value_of (nested_in cells)) values.Empty
     else values.Empty
 
@@ -47,8 +49,14 @@ value_of_type kind cells =
 unfoldable pub value_in : List Cell → Value
 value_in cells = value_of_type (value_type_in cells) cells
 
+-- what comes before the names of a value's columns
+abbrev pub value_prefix : Kind → List ℕ
+value_prefix table.Logs = codes "body."
+value_prefix _ = []
+
 -- the columns of a value begin at this one
 pub record HasValueAt (kind : Kind) (column : ℕ) : Type 0 where
+  pub names : map (λ (c : ColumnSpec). c.name) (take 7 (drop column (columns_of kind))) ≡ map (λ (c : ColumnSpec). value_prefix kind ++ c.name) own_values
   pub bases : map (λ (c : ColumnSpec). c.base) (take 7 (drop column (columns_of kind))) ≡ value_bases
 
 -- ---- what may be wrong
@@ -111,7 +119,10 @@ AreCellsOf (holds ∷ bases) (cell ∷ cells) = IsCellOf holds cell × AreCellsO
 -- ---- pairs, from the key's cell on
 
 unfoldable pub pair_in : List Cell → Pair
-pair_in cells = record { key = bytes_in (cell_at cells 0); value = value_in (drop 1 cells) }
+pair_in cells = record {
+  key = bytes_in (cell_of own_attributes (codes "key") cells);
+  value = value_in (cells_from own_attributes (codes "type") cells);
+}
 
 abbrev pub pair_cells : Pair → List Cell
 pair_cells pair = text_cell pair.key ∷ value_cells pair.value

@@ -15,7 +15,7 @@ use crate::orphans::has_orphan;
 use crate::reading::Pairs;
 use crate::refusal::RowRefusal;
 use crate::values::check_value;
-use otap_cells::{Kind, Rows, read_ids};
+use otap_cells::{Kind, Rows, read_ids, shared_columns};
 use otap_groups::{ChildEntry, ChildIndex, RowReader};
 use otlp_model::{Items, PART_WEIGHT, Pair, add_capped};
 use std::alloc::{AllocError, Global};
@@ -56,7 +56,7 @@ pub fn index_pairs<R: Rows>(
     ensures fine { OnOk result ((why : RowRefusal) → PairDefect (R.table rows.now) parents.now why → ⊥) }
     ensures wrong { IfErr result (RefusesRow (PairDefect (R.table rows.now) parents.now)) }
 {
-    let ids = read_ids(alloc, rows, 0)?;
+    let ids = read_ids(alloc, rows, shared_columns::attribute::PARENT_ID)?;
     if has_orphan(alloc, &ids, parents)? {
         return Err(RowRefusal::Orphan);
     }
@@ -127,8 +127,8 @@ fn check_values<R: Rows>(rows: &R) -> Result<(), RowRefusal>
     Ok(())
 }
 
-/// Of each row what its pair weighs.
-fn weights_of<R: Rows>(alloc: Global, rows: &R) -> Result<Vec<u64>, AllocError>
+/// Of each row of a table of attributes what its pair weighs, or `CAP` where it is more.
+pub fn weights_of<R: Rows>(alloc: Global, rows: &R) -> Result<Vec<u64>, AllocError>
     requires { has_attributes (R.table rows.now).kind ≡ true }
     ensures { IfOk result (λ weights. weights.items ≡ map pair_weight_in (R.table rows.now).rows) }
 {

@@ -53,7 +53,7 @@ gives_piece old mid now new count before after order places is same fills = by_c
     more : (n : ℕ) → drop mid.place (take (mid.filled + n) now) ≡ kept_in old ++ take n (drop mid.filled new)
     more n =
         let ordered : mid.place ≤ mid.filled = rw (places.place, places.filled) order.ordered in
-        let within : mid.filled ≤ length mid.bytes.items = let a = places.filled in let b = order.within in let c = places.longer in omega (arith, a, b, c) in
+        let within : mid.filled ≤ length mid.bytes.items = let a = places.filled in let b = order.within in let c = places.no_shorter in omega (arith, a, b, c) in
         ap (λ l. drop mid.place (take (mid.filled + n) l)) is ∙ kept_more mid.place mid.filled n mid.bytes.items new ordered within same
         ∙ ap (λ l. l ++ take n (drop mid.filled new)) kept
 

@@ -1,4 +1,4 @@
--- A reader that waits for more bytes keeps less than one frame, so it doesn't wait for ever.
+-- A reader that waits for more bytes keeps fewer than the longest frame has with its head, so it doesn't wait for ever.
 use Rattle.std.proofs.Common.{◌≡◌, ◌⊎◌, inl, inr, ℕ, suc, ◌+◌, ◌-◌, ◌<◌, ◌≤◌, true, false, List, [], ◌∷◌, length, Some, None, ap, arith}
 use Rattle.std.specs.Prelude.{nat_lt, nat_eq, not, ◌&&◌, ◌||◌, if◌then◌else◌}
 use Rattle.std.proofs.lemmas.Bool.{cases_lt, cases_Bool, lt-ltb, le-ltb}
@@ -28,7 +28,7 @@ short_length (a ∷ b ∷ c ∷ []) (inr e) = omega arith
 short_length (a ∷ b ∷ c ∷ d ∷ []) (inr e) = omega arith
 short_length (flag ∷ a ∷ b ∷ c ∷ d ∷ rest) (inr e) = let few = few_left flag (big_number 4 (a ∷ b ∷ c ∷ d ∷ [])) (length rest) e in omega (arith, few)
 
--- how much more a reader may take before it needs to wait no longer
+-- a number that falls with each piece: 0 at the end of the source, else one more than the bytes that the longest frame still lacks
 abbrev pub still_to_take : Reading → ℕ
 still_to_take reading = if reading.complete then 0 else suc (longest_frame + 5 - length reading.kept)
 

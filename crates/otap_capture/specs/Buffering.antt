@@ -16,12 +16,12 @@ pub record IsInOrder (b : Buffer) : Type 0 where
   pub ordered : b.place ≤ b.filled
   pub within : b.filled ≤ length b.bytes.items
 
--- what is filled stays, and where it is
+-- what is filled stays, at its offsets, and the buffer gets no shorter
 pub record KeepsPlaces (old new : Buffer) : Type 0 where
   pub place : new.place ≡ old.place
   pub filled : new.filled ≡ old.filled
   pub bytes : take old.filled new.bytes.items ≡ take old.filled old.bytes.items
-  pub longer : length old.bytes.items ≤ length new.bytes.items
+  pub no_shorter : length old.bytes.items ≤ length new.bytes.items
 
 -- a read filled the front of these bytes
 pub record FillsFront (bytes : List ℕ) (before after : Option (List ℕ)) (count : ℕ) : Type 0 where
@@ -30,6 +30,7 @@ pub record FillsFront (bytes : List ℕ) (before after : Option (List ℕ)) (cou
   pub there : count ≤ length bytes
   pub ends : count ≡ 0 → IsAtEnd after
 
+-- a read that fills the front of these bytes, or fails and takes nothing
 abbrev pub ReadsBehind : List ℕ → Option (List ℕ) → Option (List ℕ) → Result ℕ ReadFailed → Type 0
 ReadsBehind bytes before after (Ok count) = FillsFront bytes before after count
 ReadsBehind bytes before after (Err e) = Keeps before after

@@ -110,7 +110,7 @@ KeepsRest new (Ok (step.Damage damage)) = ⊤
 KeepsRest new (Err refusal) = ⊤
 
 -- What a step leaves: all that was taken from the source is more than what was handed out before by one frame and read_ahead
--- bytes at most; those that are kept are one frame and read_ahead bytes at most; and the buffer isn't much longer.
+-- bytes at most; those that are kept are one frame and read_ahead bytes at most; and the buffer has at most most_held bytes.
 pub record KeepsFew (old new : Reading) : Type 0 where
   pub taken : new.handed + length new.kept ≤ old.handed + (longest_frame + frame_head + read_ahead)
   pub lean : IsLean new.kept

@@ -33,8 +33,8 @@ impl Buffer {
         &self.bytes[..self.filled][self.place..]
     }
 
-    /// Gives up the bytes before those that are kept, where they are at least as many. So all bytes that
-    /// are moved by this are at most those that were read.
+    /// Lets go of the bytes before those that are kept, where they are at least as many as these, which are moved to the front.
+    /// So all bytes that are moved are at most those that were read.
     pub(crate) fn let_go(&mut self)
         requires { IsInOrder self.old }
         ensures order { IsInOrder self.new }
@@ -83,7 +83,7 @@ impl Buffer {
     }
 }
 
-/// Copies the bytes from an offset on to the front.
+/// Copies `count` bytes, from offset `from`, to the front.
 fn move_front(bytes: &mut [u8], from: usize, count: usize)
     requires there { from + count ≤ length bytes.old }
     requires apart { count ≤ from }
@@ -93,7 +93,7 @@ fn move_front(bytes: &mut [u8], from: usize, count: usize)
     front[..count].copy_from_slice(&back[..count]);
 }
 
-/// Has the source fill the room behind the bytes that are filled.
+/// Has the source fill the room behind the first `filled` bytes.
 fn read_behind<S: Source>(
     bytes: &mut [u8],
     filled: usize,

@@ -16,7 +16,7 @@ use std::marker::Model;
 /// more, and asks the source only where the next step isn't decided by the bytes that it keeps.
 #[derive(Drop)]
 pub struct Frames {
-    /// The bytes that are kept. Those of the last frame end where they begin.
+    /// The bytes that are kept; right before them are those of the last frame.
     buffer: Buffer,
     /// How many bytes the frames handed out so far have.
     handed: u64,

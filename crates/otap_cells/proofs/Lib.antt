@@ -1,7 +1,7 @@
 pub mod Adding
 pub mod Apart
 pub mod AttributeColumns
-mod AttributeFlags
+pub mod AttributeFlags
 pub mod ByPlace
 pub mod ColumnSteps
 pub mod Columnwise
@@ -13,6 +13,7 @@ pub mod IdSteps
 pub mod KindNamed
 pub mod KindsApart
 pub mod NamedTables
+mod NullColumns
 pub mod OwnCells
 pub mod Rowwise
 pub mod ScalarLaws

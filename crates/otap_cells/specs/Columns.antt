@@ -1,5 +1,5 @@
 -- The columns of each table (OpenTelemetry Arrow data model; names, types and codings are this gateway's profile).
-use Rattle.std.specs.Prelude.{ℕ, Bool, true, false, List, [], ◌∷◌, ◌++◌, length, codes, Option, None, if◌then◌else◌, ◌==◌}
+use Rattle.std.specs.Prelude.{ℕ, ◌+◌, Bool, true, false, List, [], ◌∷◌, ◌++◌, length, codes, Option, None, if◌then◌else◌, ◌==◌}
 use Rattle.std.specs.List.{slice_index_or, list_any, join_with_byte, position_from}
 use Rattle.std.specs.Str.{bytes_eq}
 use Rattle.otap_cells.specs.declared.payload.Kind.{Kind}
@@ -48,21 +48,27 @@ id = base.Id false
 abbrev pub wide_id : Base
 wide_id = base.Id true
 
+-- ---- the tables: first the columns that a table has of its own items, and then all of its columns
+
 -- the columns at the front of each main table: the item's own id, its resource and its scope
+abbrev pub own_resources : List ColumnSpec
+own_resources = dictionary (codes "resource.schema_url") base.Utf8
+    ∷ plain (codes "resource.dropped_attributes_count") base.U32 ∷ []
+
+abbrev pub own_scopes : List ColumnSpec
+own_scopes = dictionary (codes "scope.name") base.Utf8
+    ∷ dictionary (codes "scope.version") base.Utf8
+    ∷ plain (codes "scope.dropped_attributes_count") base.U32 ∷ []
+
 abbrev pub common : List ColumnSpec
 common = delta (codes "id") id
-    ∷ delta (codes "resource.id") id
-    ∷ dictionary (codes "resource.schema_url") base.Utf8
-    ∷ plain (codes "resource.dropped_attributes_count") base.U32
-    ∷ delta (codes "scope.id") id
-    ∷ dictionary (codes "scope.name") base.Utf8
-    ∷ dictionary (codes "scope.version") base.Utf8
-    ∷ plain (codes "scope.dropped_attributes_count") base.U32
-    ∷ dictionary (codes "schema_url") base.Utf8 ∷ []
+    ∷ delta (codes "resource.id") id ∷ own_resources
+    ++ (delta (codes "scope.id") id ∷ own_scopes
+    ++ (dictionary (codes "schema_url") base.Utf8 ∷ []))
 
 -- log records
-unfoldable pub logs : List ColumnSpec
-logs = common ++ (plain (codes "time_unix_nano") base.Timestamp
+abbrev pub own_logs : List ColumnSpec
+own_logs = plain (codes "time_unix_nano") base.Timestamp
     ∷ plain (codes "observed_time_unix_nano") base.Timestamp
     ∷ plain (codes "trace_id") base.Fixed16
     ∷ plain (codes "span_id") base.Fixed8
@@ -77,11 +83,14 @@ logs = common ++ (plain (codes "time_unix_nano") base.Timestamp
     ∷ plain (codes "body.ser") base.Binary
     ∷ plain (codes "dropped_attributes_count") base.U32
     ∷ plain (codes "flags") base.U32
-    ∷ dictionary (codes "event_name") base.Utf8 ∷ [])
+    ∷ dictionary (codes "event_name") base.Utf8 ∷ []
+
+unfoldable pub logs : List ColumnSpec
+logs = common ++ own_logs
 
 -- spans
-unfoldable pub spans : List ColumnSpec
-spans = common ++ (plain (codes "start_time_unix_nano") base.Timestamp
+abbrev pub own_spans : List ColumnSpec
+own_spans = plain (codes "start_time_unix_nano") base.Timestamp
     ∷ dictionary (codes "duration_time_unix_nano") base.Duration
     ∷ plain (codes "trace_id") base.Fixed16
     ∷ plain (codes "span_id") base.Fixed8
@@ -94,22 +103,26 @@ spans = common ++ (plain (codes "start_time_unix_nano") base.Timestamp
     ∷ plain (codes "dropped_links_count") base.U32
     ∷ dictionary (codes "status.code") base.I32
     ∷ dictionary (codes "status.status_message") base.Utf8
-    ∷ plain (codes "flags") base.U32 ∷ [])
+    ∷ plain (codes "flags") base.U32 ∷ []
+
+unfoldable pub spans : List ColumnSpec
+spans = common ++ own_spans
 
 -- metrics
-unfoldable pub metrics : List ColumnSpec
-metrics = common ++ (plain (codes "metric_type") base.U8
+abbrev pub own_metrics : List ColumnSpec
+own_metrics = plain (codes "metric_type") base.U8
     ∷ dictionary (codes "name") base.Utf8
     ∷ dictionary (codes "description") base.Utf8
     ∷ dictionary (codes "unit") base.Utf8
     ∷ dictionary (codes "aggregation_temporality") base.I32
-    ∷ plain (codes "is_monotonic") base.Bool ∷ [])
+    ∷ plain (codes "is_monotonic") base.Bool ∷ []
 
--- attributes, by the width of their parents' ids
-abbrev pub attributes : Base → List ColumnSpec
-attributes parent = run (codes "parent_id") parent
-    ∷ dictionary (codes "key") base.Utf8
-    ∷ plain (codes "type") base.U8
+unfoldable pub metrics : List ColumnSpec
+metrics = common ++ own_metrics
+
+-- attributes: the columns of a value, those from the key on, and all by the width of their parents' ids
+abbrev pub own_values : List ColumnSpec
+own_values = plain (codes "type") base.U8
     ∷ dictionary (codes "str") base.Utf8
     ∷ dictionary (codes "int") base.I64
     ∷ plain (codes "double") base.Double
@@ -117,64 +130,81 @@ attributes parent = run (codes "parent_id") parent
     ∷ dictionary (codes "bytes") base.Binary
     ∷ dictionary (codes "ser") base.Binary ∷ []
 
+abbrev pub own_attributes : List ColumnSpec
+own_attributes = dictionary (codes "key") base.Utf8 ∷ own_values
+
+abbrev pub attributes : Base → List ColumnSpec
+attributes parent = run (codes "parent_id") parent ∷ own_attributes
+
 -- events of spans
-unfoldable pub span_events : List ColumnSpec
-span_events = delta (codes "id") wide_id
-    ∷ run (codes "parent_id") id
-    ∷ plain (codes "time_unix_nano") base.Timestamp
+abbrev pub own_events : List ColumnSpec
+own_events = plain (codes "time_unix_nano") base.Timestamp
     ∷ dictionary (codes "name") base.Utf8
     ∷ plain (codes "dropped_attributes_count") base.U32 ∷ []
 
+unfoldable pub span_events : List ColumnSpec
+span_events = delta (codes "id") wide_id ∷ run (codes "parent_id") id ∷ own_events
+
 -- links of spans
-unfoldable pub span_links : List ColumnSpec
-span_links = delta (codes "id") wide_id
-    ∷ run (codes "parent_id") id
-    ∷ plain (codes "trace_id") base.Fixed16
+abbrev pub own_links : List ColumnSpec
+own_links = plain (codes "trace_id") base.Fixed16
     ∷ plain (codes "span_id") base.Fixed8
     ∷ dictionary (codes "trace_state") base.Utf8
     ∷ plain (codes "dropped_attributes_count") base.U32
     ∷ plain (codes "flags") base.U32 ∷ []
 
--- the columns at the front of each table of points: the point's own id, its metric and its times
-abbrev pub points : List ColumnSpec
-points = delta (codes "id") wide_id
-    ∷ delta (codes "parent_id") id
-    ∷ plain (codes "start_time_unix_nano") base.Timestamp
-    ∷ plain (codes "time_unix_nano") base.Timestamp ∷ []
+unfoldable pub span_links : List ColumnSpec
+span_links = delta (codes "id") wide_id ∷ run (codes "parent_id") id ∷ own_links
 
 -- points of gauges and sums
-unfoldable pub number_points : List ColumnSpec
-number_points = points ++ (plain (codes "int_value") base.I64
+abbrev pub own_number_points : List ColumnSpec
+own_number_points = plain (codes "start_time_unix_nano") base.Timestamp
+    ∷ plain (codes "time_unix_nano") base.Timestamp
+    ∷ plain (codes "int_value") base.I64
     ∷ plain (codes "double_value") base.Double
-    ∷ plain (codes "flags") base.U32 ∷ [])
+    ∷ plain (codes "flags") base.U32 ∷ []
+
+unfoldable pub number_points : List ColumnSpec
+number_points = delta (codes "id") wide_id ∷ delta (codes "parent_id") id ∷ own_number_points
 
 -- points of summaries
-unfoldable pub summary_points : List ColumnSpec
-summary_points = points ++ (plain (codes "count") base.U64
+abbrev pub own_summary_points : List ColumnSpec
+own_summary_points = plain (codes "start_time_unix_nano") base.Timestamp
+    ∷ plain (codes "time_unix_nano") base.Timestamp
+    ∷ plain (codes "count") base.U64
     ∷ plain (codes "sum") base.Double
     ∷ plain (codes "quantiles") base.ListF64
     ∷ plain (codes "quantile_values") base.ListF64
-    ∷ plain (codes "flags") base.U32 ∷ [])
+    ∷ plain (codes "flags") base.U32 ∷ []
+
+unfoldable pub summary_points : List ColumnSpec
+summary_points = delta (codes "id") wide_id ∷ delta (codes "parent_id") id ∷ own_summary_points
 
 -- points of histograms
-unfoldable pub hist_points : List ColumnSpec
-hist_points = points ++ (plain (codes "count") base.U64
+abbrev pub own_hist_points : List ColumnSpec
+own_hist_points = plain (codes "start_time_unix_nano") base.Timestamp
+    ∷ plain (codes "time_unix_nano") base.Timestamp
+    ∷ plain (codes "count") base.U64
     ∷ plain (codes "bucket_counts") base.ListU64
     ∷ plain (codes "explicit_bounds") base.ListF64
     ∷ plain (codes "sum") base.Double
     ∷ plain (codes "flags") base.U32
     ∷ plain (codes "min") base.Double
-    ∷ plain (codes "max") base.Double ∷ [])
+    ∷ plain (codes "max") base.Double ∷ []
+
+unfoldable pub hist_points : List ColumnSpec
+hist_points = delta (codes "id") wide_id ∷ delta (codes "parent_id") id ∷ own_hist_points
 
 -- exemplars of numbers and of histograms
-unfoldable pub exemplars : List ColumnSpec
-exemplars = delta (codes "id") wide_id
-    ∷ delta (codes "parent_id") wide_id
-    ∷ plain (codes "time_unix_nano") base.Timestamp
+abbrev pub own_exemplars : List ColumnSpec
+own_exemplars = plain (codes "time_unix_nano") base.Timestamp
     ∷ plain (codes "int_value") base.I64
     ∷ plain (codes "double_value") base.Double
     ∷ plain (codes "span_id") base.Fixed8
     ∷ plain (codes "trace_id") base.Fixed16 ∷ []
+
+unfoldable pub exemplars : List ColumnSpec
+exemplars = delta (codes "id") wide_id ∷ delta (codes "parent_id") wide_id ∷ own_exemplars
 
 -- attributes of resources, scopes, log records and spans
 unfoldable pub attrs : List ColumnSpec
@@ -236,6 +266,11 @@ abbrev pub allows : ColumnSpec → Coding → Bool
 allows c coding.Plain = is_id c.base
 allows c coding.Delta = is_id c.base
 allows c coding.Run = is_run c.coding
+
+-- the place of a name among columns; their number where none has it
+abbrev pub place_in : List ColumnSpec → List ℕ → ℕ
+place_in [] name = 0
+place_in (column ∷ columns) name = if bytes_eq name column.name then 0 else place_in columns name + 1
 
 -- a name that holds a dot
 abbrev pub has_dot : List ℕ → Bool

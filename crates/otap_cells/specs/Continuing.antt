@@ -1,11 +1,13 @@
 -- Which rows continue the run of the row before them.
-use Rattle.std.specs.Prelude.{ℕ, ℤ, pos, Bool, true, false, ◌==◌, ◌&&◌, ◌||◌, if◌then◌else◌, List, [], ◌∷◌, Option, None, Some, map, drop}
+use Rattle.std.specs.Prelude.{ℕ, ℤ, pos, Bool, true, false, ◌==◌, ◌&&◌, ◌||◌, if◌then◌else◌, List, [], ◌∷◌, Option, None, Some, codes, map, drop}
 use Rattle.std.specs.Ordering.{int_eq}
 use Rattle.std.specs.Str.{bytes_eq}
 use Rattle.otap_cells.specs.declared.payload.Kind.{Kind}
 use Rattle.otap_cells.specs.declared.payload.Kind.TheVariants as table
 use Rattle.otap_cells.specs.declared.continuing.Attribute.{Attribute}
-use Rattle.otap_cells.specs.Cells.{Cell, bytes_in, cell_at, nat_in}
+use Rattle.otap_cells.specs.ByName.{cell_of}
+use Rattle.otap_cells.specs.Cells.{Cell, bytes_in, nat_in}
+use Rattle.otap_cells.specs.Columns.{own_attributes, own_events, own_links}
 use Rattle.otap_cells.specs.Scalars.{int_in, bits_in, flag_in}
 use Rattle.otap_cells.specs.Payload.{is_kind}
 use Rattle.otap_cells.specs.Tables.{Table}
@@ -37,29 +39,29 @@ pub record AttributeIn : Type 0 where
 
 -- an integer; the bits of a double, or 1 for `true`; the bytes of a text, of bytes, or of a nested value
 abbrev pub int_by : ℕ → List Cell → ℤ
-int_by kind cells = if kind == 2 then int_in (cell_at cells 3) else pos 0
+int_by kind cells = if kind == 2 then int_in (cell_of own_attributes (codes "int") cells) else pos 0
 
 abbrev pub bits_by : ℕ → List Cell → ℕ
 bits_by kind cells =
-    if kind == 3 then bits_in (cell_at cells 4)
-    else if kind == 4 && flag_in (cell_at cells 5) then 1
+    if kind == 3 then bits_in (cell_of own_attributes (codes "double") cells)
+    else if kind == 4 && flag_in (cell_of own_attributes (codes "bool") cells) then 1
     else 0
 
 abbrev pub bytes_by : ℕ → List Cell → List ℕ
 bytes_by kind cells =
-    if kind == 1 then bytes_in (cell_at cells 2)
-    else if kind == 7 then bytes_in (cell_at cells 6)
-    else if kind == 5 || kind == 6 then bytes_in (cell_at cells 7)
+    if kind == 1 then bytes_in (cell_of own_attributes (codes "str") cells)
+    else if kind == 7 then bytes_in (cell_of own_attributes (codes "bytes") cells)
+    else if kind == 5 || kind == 6 then bytes_in (cell_of own_attributes (codes "ser") cells)
     else []
 
 -- the attribute that the cells of a row say, from its key on
 unfoldable pub attribute_in : List Cell → AttributeIn
 attribute_in cells = record {
-  kind = nat_in (cell_at cells 1);
-  key = bytes_in (cell_at cells 0);
-  int = int_by (nat_in (cell_at cells 1)) cells;
-  bits = bits_by (nat_in (cell_at cells 1)) cells;
-  bytes = bytes_by (nat_in (cell_at cells 1)) cells;
+  kind = nat_in (cell_of own_attributes (codes "type") cells);
+  key = bytes_in (cell_of own_attributes (codes "key") cells);
+  int = int_by (nat_in (cell_of own_attributes (codes "type") cells)) cells;
+  bits = bits_by (nat_in (cell_of own_attributes (codes "type") cells)) cells;
+  bytes = bytes_by (nat_in (cell_of own_attributes (codes "type") cells)) cells;
 }
 
 abbrev pub seen_attribute : Attribute → AttributeIn
@@ -81,11 +83,13 @@ says_again before cells = is_run_kind (attribute_in cells).kind && attribute_is 
 
 -- an event of the same name
 abbrev pub has_name_again : List Cell → List Cell → Bool
-has_name_again before cells = bytes_eq (bytes_in (cell_at before 1)) (bytes_in (cell_at cells 1))
+has_name_again before cells =
+    bytes_eq (bytes_in (cell_of own_events (codes "name") before)) (bytes_in (cell_of own_events (codes "name") cells))
 
 -- a link to the same trace
 abbrev pub has_trace_again : List Cell → List Cell → Bool
-has_trace_again before cells = bytes_eq (bytes_in (cell_at before 0)) (bytes_in (cell_at cells 0))
+has_trace_again before cells =
+    bytes_eq (bytes_in (cell_of own_links (codes "trace_id") before)) (bytes_in (cell_of own_links (codes "trace_id") cells))
 
 -- whether a row continues the run of the row before it, by a test on the cells of both; the first row doesn't
 abbrev pub goes_on_after : (List Cell → List Cell → Bool) → Option (List Cell) → List Cell → Bool

@@ -1,5 +1,5 @@
 -- Payload types (OpenTelemetry Arrow Protocol, ArrowPayloadType).
-use Rattle.std.specs.Prelude.{ℕ, ℤ, pos, Bool, Option, List, [], ◌∷◌, find, ◌==◌}
+use Rattle.std.specs.Prelude.{ℕ, ℤ, pos, Bool, true, false, Option, List, [], ◌∷◌, find, ◌==◌}
 use Rattle.std.specs.Ordering.{int_eq}
 use Rattle.otlp_model.specs.declared.request.Signal.{Signal}
 use Rattle.otlp_model.specs.declared.request.Signal.TheVariants as signal
@@ -50,3 +50,10 @@ kind_numbered of number = find (λ kind. int_eq (pos (number_of kind)) number) (
 -- two kinds are one
 abbrev pub is_kind : Kind → Kind → Bool
 is_kind a b = number_of a == number_of b
+
+-- the main table of some signal
+abbrev pub is_main : Kind → Bool
+is_main table.Metrics = true
+is_main table.Logs = true
+is_main table.Spans = true
+is_main other = false

@@ -1,5 +1,5 @@
 -- Tables: rows of cells, under the columns of their kind.
-use Rattle.std.specs.Prelude.{◌≡◌, ℕ, ◌-◌, ◌≤◌, true, List, [], ◌∷◌, length, map, replicate, All, slice_set}
+use Rattle.std.specs.Prelude.{◌≡◌, ℕ, ◌-◌, ◌<◌, ◌≤◌, true, List, [], ◌∷◌, length, map, replicate, All, slice_set}
 use Rattle.std.specs.List.{slice_index_or, range_with_len}
 use Rattle.otap_cells.specs.declared.payload.Kind.{Kind}
 use Rattle.otap_cells.specs.declared.profile.Coding.{Coding}
@@ -27,6 +27,10 @@ greatest_in t column = slice_index_or t.greatest column 0
 -- the cell of a row in a column, null where there is none
 abbrev pub cell_in : List (List Cell) → ℕ → ℕ → Cell
 cell_in rows column row = slice_index_or (slice_index_or rows row []) column null
+
+-- the cells of a column are null
+abbrev pub IsNullColumn : List (List Cell) → ℕ → Type 0
+IsNullColumn rows column = (row : ℕ) → row < length rows → cell_in rows column row ≡ null
 
 -- a column of the rows, from the first row to the last
 abbrev pub column_in : List (List Cell) → ℕ → List Cell

@@ -3,9 +3,10 @@ ghost use Rattle.std.specs.Prelude.{◌≡◌, ◌<◌, ◌&&◌, [], true, drop
 ghost use Rattle.std.specs.List.{slice_index_or};
 ghost use Rattle.otap_cells.specs.Continuing.{again_of, attribute_in, attribute_is, bits_by, bytes_by, continues_in, has_attributes, ids_in_front, int_by, is_run_kind, seen_attribute};
 
-use crate::payload::Kind;
+use crate::payload::{Kind, has_attributes};
 use crate::reads::{bits_in, bytes_in, flag_in, int_in, number_in};
 use crate::rows::Rows;
+use crate::shared_columns::{attribute, event, link};
 use std::alloc::{AllocError, Global};
 
 /// What a row of attributes says: the type of its value, its key, and of the value what the type names. The parts of other
@@ -22,35 +23,6 @@ pub struct Attribute<'a> {
     pub bytes: &'a [u8],
 }
 
-/// Whether the rows of a kind are attributes.
-pub(crate) fn has_attributes(kind: Kind) -> bool
-    ensures { result ≡ has_attributes kind }
-{
-    match kind {
-        Kind::ResourceAttrs
-        | Kind::ScopeAttrs
-        | Kind::LogAttrs
-        | Kind::SpanAttrs
-        | Kind::EventAttrs
-        | Kind::LinkAttrs
-        | Kind::NumberPointAttrs
-        | Kind::SummaryPointAttrs
-        | Kind::HistPointAttrs
-        | Kind::NumberExemplarAttrs
-        | Kind::HistExemplarAttrs => true,
-        Kind::Metrics
-        | Kind::NumberPoints
-        | Kind::SummaryPoints
-        | Kind::HistPoints
-        | Kind::NumberExemplars
-        | Kind::HistExemplars
-        | Kind::Logs
-        | Kind::Spans
-        | Kind::SpanEvents
-        | Kind::SpanLinks => false,
-    }
-}
-
 /// What a row of attributes says, where its cells are kept.
 #[inline(always)]
 #[tactic(auto, using(crate::proofs::AttributeColumns::attribute_width, crate::proofs::AttributeColumns::attribute_type, crate::proofs::Flags::after_one), unfolding(crate::specs::Continuing::attribute_in))]
@@ -59,10 +31,10 @@ pub fn attribute_at<R: Rows>(rows: &R, row: u64) -> Attribute<'_>
     requires row { row < length (R.table rows.now).rows }
     ensures { seen_attribute result ≡ attribute_in (drop 1 (slice_index_or (R.table rows.now).rows row [])) }
 {
-    let kind = number_in(rows, 2, row);
+    let kind = number_in(rows, attribute::TYPE, row);
     Attribute {
         kind,
-        key: bytes_in(rows, 1, row),
+        key: bytes_in(rows, attribute::KEY, row),
         int: int_of(rows, kind, row),
         bits: bits_of(rows, kind, row),
         bytes: bytes_of(rows, kind, row),
@@ -127,8 +99,12 @@ fn again<R: Rows>(rows: &R, before: u64, row: u64) -> bool
         return says_again(&attribute_at(rows, before), &attribute_at(rows, row));
     }
     match kind {
-        Kind::SpanEvents => bytes_in(rows, 3, before) == bytes_in(rows, 3, row),
-        Kind::SpanLinks => bytes_in(rows, 2, before) == bytes_in(rows, 2, row),
+        Kind::SpanEvents => {
+            bytes_in(rows, event::NAME, before) == bytes_in(rows, event::NAME, row)
+        },
+        Kind::SpanLinks => {
+            bytes_in(rows, link::TRACE_ID, before) == bytes_in(rows, link::TRACE_ID, row)
+        },
         _ => false,
     }
 }
@@ -159,7 +135,11 @@ fn int_of<R: Rows>(rows: &R, kind: u32, row: u64) -> i64
     requires row { row < length (R.table rows.now).rows }
     ensures { result ≡ int_by kind (drop 1 (slice_index_or (R.table rows.now).rows row [])) }
 {
-    if kind == 2 { int_in(rows, 4, row) } else { 0 }
+    if kind == 2 {
+        int_in(rows, attribute::INT, row)
+    } else {
+        0
+    }
 }
 
 #[tactic(auto, using(crate::proofs::AttributeColumns::attribute_width, crate::proofs::Flags::after_one))]
@@ -169,9 +149,9 @@ fn bits_of<R: Rows>(rows: &R, kind: u32, row: u64) -> u64
     ensures { result ≡ bits_by kind (drop 1 (slice_index_or (R.table rows.now).rows row [])) }
 {
     if kind == 3 {
-        return bits_in(rows, 5, row);
+        return bits_in(rows, attribute::DOUBLE, row);
     }
-    if kind == 4 && flag_in(rows, 6, row) {
+    if kind == 4 && flag_in(rows, attribute::BOOL, row) {
         1
     } else {
         0
@@ -185,9 +165,9 @@ fn bytes_of<R: Rows>(rows: &R, kind: u32, row: u64) -> &[u8]
     ensures { result.now ≡ bytes_by kind (drop 1 (slice_index_or (R.table rows.now).rows row [])) }
 {
     match kind {
-        1 => bytes_in(rows, 3, row),
-        7 => bytes_in(rows, 7, row),
-        5 | 6 => bytes_in(rows, 8, row),
+        1 => bytes_in(rows, attribute::STR, row),
+        7 => bytes_in(rows, attribute::BYTES, row),
+        5 | 6 => bytes_in(rows, attribute::SER, row),
         _ => &[],
     }
 }

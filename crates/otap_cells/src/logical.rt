@@ -163,6 +163,10 @@ impl Rows for LogicalTable {
         self.columns[column as usize].get(row as usize)
     }
 
+    fn lacks(&self, column: u32) -> bool {
+        self.reach(column) == 0
+    }
+
     fn coding(&self, column: u32) -> Coding {
         coding_of(self.kind, column)
     }

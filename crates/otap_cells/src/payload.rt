@@ -1,5 +1,6 @@
 ghost use Rattle.std.specs.Prelude.{◌≡◌, pos};
-ghost use Rattle.otap_cells.specs.Payload.{number_of, kinds_of, main_of, kind_numbered};
+ghost use Rattle.otap_cells.specs.Continuing.{has_attributes};
+ghost use Rattle.otap_cells.specs.Payload.{is_main, kind_numbered, kinds_of, main_of, number_of};
 
 use otlp_model::Signal;
 
@@ -134,6 +135,42 @@ pub fn main_of(signal: Signal) -> Kind
         Signal::Traces => Kind::Spans,
         Signal::Logs => Kind::Logs,
         Signal::Metrics => Kind::Metrics,
+    }
+}
+
+/// Whether a kind is the main table of a signal.
+pub fn is_main(kind: Kind) -> bool
+    ensures { result ≡ is_main kind }
+{
+    matches!(kind, Kind::Metrics | Kind::Logs | Kind::Spans)
+}
+
+/// Whether the rows of a kind are attributes.
+pub fn has_attributes(kind: Kind) -> bool
+    ensures { result ≡ has_attributes kind }
+{
+    match kind {
+        Kind::ResourceAttrs
+        | Kind::ScopeAttrs
+        | Kind::LogAttrs
+        | Kind::SpanAttrs
+        | Kind::EventAttrs
+        | Kind::LinkAttrs
+        | Kind::NumberPointAttrs
+        | Kind::SummaryPointAttrs
+        | Kind::HistPointAttrs
+        | Kind::NumberExemplarAttrs
+        | Kind::HistExemplarAttrs => true,
+        Kind::Metrics
+        | Kind::NumberPoints
+        | Kind::SummaryPoints
+        | Kind::HistPoints
+        | Kind::NumberExemplars
+        | Kind::HistExemplars
+        | Kind::Logs
+        | Kind::Spans
+        | Kind::SpanEvents
+        | Kind::SpanLinks => false,
     }
 }
 

@@ -1,7 +1,10 @@
-ghost use Rattle.std.specs.Prelude.{◌≡◌, ◌<◌, ◌^◌, map, length};
+ghost use Rattle.std.specs.Prelude.{◌≡◌, ◌<◌, ◌^◌, map, length, All};
 ghost use Rattle.otap_cells.specs.Columns.{allows, base_at, coding_at, columns_of, described, width_of};
+ghost use Rattle.otap_cells.specs.Groups.{grouped};
+ghost use Rattle.otap_cells.specs.StaticGroups.{IsWithin, group_in};
 ghost use Rattle.otap_cells.specs.Bases.{holds_bytes, is_id};
 
+use crate::grouping::{ColumnGroup, GroupMember};
 use crate::payload::Kind;
 
 /// What the cells of a column hold, and the Arrow type that stores them.
@@ -154,196 +157,334 @@ macro_rules! base {
     };
 }
 
-/// A column, by its line: the name, what its cells hold, and `d` where it is written as a dictionary, or the coding of its ids.
-macro_rules! column {
-    ($name:literal $base:ident) => {
-        Column {
-            name: $name,
-            base: base!($base),
-            dictionary: false,
-            coding: Coding::Plain,
-        }
+/// The name of a column, by its path: alone, or below a struct.
+macro_rules! name {
+    ($name:literal) => {
+        $name
     };
-    ($name:literal $base:ident d) => {
-        Column {
-            name: $name,
-            base: base!($base),
-            dictionary: true,
-            coding: Coding::Plain,
-        }
+    ($struct:literal $name:literal) => {
+        concat!($struct, ".", $name)
     };
-    ($name:literal $base:ident delta) => {
-        Column {
-            name: $name,
-            base: base!($base),
-            dictionary: false,
-            coding: Coding::Delta,
-        }
+}
+
+/// Whether a column is written as a dictionary, by the mark of its line.
+macro_rules! is_dictionary {
+    () => {
+        false
     };
-    ($name:literal $base:ident run) => {
-        Column {
-            name: $name,
+    (d) => {
+        true
+    };
+    ($coding:ident) => {
+        false
+    };
+}
+
+/// How the ids of a column are stored, by the mark of its line.
+macro_rules! coding {
+    () => {
+        Coding::Plain
+    };
+    (d) => {
+        Coding::Plain
+    };
+    (delta) => {
+        Coding::Delta
+    };
+    (run) => {
+        Coding::Run
+    };
+}
+
+// The lines of a table are written `[field: how] { index ["struct"] "name" base [d | delta | run]; .. }`: a column's index, the path of
+// its name, what its cells hold, and `d` where it is written as a dictionary, or the coding of its ids. Braces hold one column, or
+// those of one struct. Before them may stand the field that the columns are of, and how it is written.
+
+/// The columns of a table, by its lines. That they are at the indexes of their lines is a clause of `columns`.
+macro_rules! column_list {
+    ($($($field:ident: $how:ident)? { $($place:literal $($part:literal)+ $base:ident $($mark:ident)?);+ })*) => {
+        &[$($(Column {
+            name: name!($($part)+),
             base: base!($base),
-            dictionary: false,
-            coding: Coding::Run,
+            dictionary: is_dictionary!($($mark)?),
+            coding: coding!($($mark)?),
+        }),+),*]
+    };
+}
+
+macro_rules! member {
+    ($place:literal $name:literal) => {
+        GroupMember {
+            column: $place,
+            name: $name,
         }
     };
 }
 
-macro_rules! table {
-    ($($name:literal $base:ident $($mark:ident)?;)*) => { &[$(column!($name $base $($mark)?)),*] };
+/// The group of the lines in one pair of braces. That they name one struct is a clause of `column_groups`.
+macro_rules! group {
+    ($place:literal $name:literal) => {
+        ColumnGroup::Alone(member!($place $name))
+    };
+    ($first:literal $struct:literal $name:literal $(; $place:literal $again:literal $member:literal)*) => {
+        ColumnGroup::Under($struct, &[member!($first $name) $(, member!($place $member))*])
+    };
 }
 
-/// A main table: the row's own id, its resource and its scope, and then the lines of the signal.
+/// The groups of a table's columns, by the same lines.
+macro_rules! group_list {
+    ($($($field:ident: $how:ident)? { $($place:literal $($part:literal)+ $base:ident $($mark:ident)?);+ })*) => {
+        &[$(group!($($place $($part)+);+)),*]
+    };
+}
+
+/// The lines of a main table: those of the row's own id, its resource and its scope, and then those of the signal.
 macro_rules! main_table {
-    ($($line:tt)*) => {
-        table![
-            "id" id delta;
-            "resource.id" id delta;
-            "resource.schema_url" utf8 d;
-            "resource.dropped_attributes_count" u32;
-            "scope.id" id delta;
-            "scope.name" utf8 d;
-            "scope.version" utf8 d;
-            "scope.dropped_attributes_count" u32;
-            "schema_url" utf8 d;
-            $($line)*
-        ]
+    ($callback:ident $($own:tt)*) => {
+        $callback! {
+            { 0 "id" id delta }
+            {
+                1 "resource" "id" id delta;
+                2 "resource" "schema_url" utf8 d;
+                3 "resource" "dropped_attributes_count" u32
+            }
+            {
+                4 "scope" "id" id delta;
+                5 "scope" "name" utf8 d;
+                6 "scope" "version" utf8 d;
+                7 "scope" "dropped_attributes_count" u32
+            }
+            { 8 "schema_url" utf8 d }
+            $($own)*
+        }
     };
 }
 
-static LOGS: &[Column] = main_table![
-    "time_unix_nano" timestamp;
-    "observed_time_unix_nano" timestamp;
-    "trace_id" trace_id;
-    "span_id" span_id;
-    "severity_number" i32 d;
-    "severity_text" utf8 d;
-    "body.type" u8;
-    "body.str" utf8;
-    "body.int" i64;
-    "body.double" f64;
-    "body.bool" bool;
-    "body.bytes" binary;
-    "body.ser" binary;
-    "dropped_attributes_count" u32;
-    "flags" u32;
-    "event_name" utf8 d;
-];
+/// Calls the macro that is named first, with what follows its name and then the lines of the columns that log records have of their
+/// own. `time: bits { 9 .. }` says that the field `time` is written by `bits_cell` to column 9; the words for how are bits, number,
+/// int, text, octets and value.
+#[macro_export]
+macro_rules! log_columns {
+    ($callback:ident $($args:tt)*) => {
+        $callback! {
+            $($args)*
+            time: bits { 9 "time_unix_nano" timestamp }
+            observed: bits { 10 "observed_time_unix_nano" timestamp }
+            trace_id: octets { 11 "trace_id" trace_id }
+            span_id: octets { 12 "span_id" span_id }
+            severity: int { 13 "severity_number" i32 d }
+            severity_text: text { 14 "severity_text" utf8 d }
+            body: value {
+                15 "body" "type" u8;
+                16 "body" "str" utf8;
+                17 "body" "int" i64;
+                18 "body" "double" f64;
+                19 "body" "bool" bool;
+                20 "body" "bytes" binary;
+                21 "body" "ser" binary
+            }
+            dropped: number { 22 "dropped_attributes_count" u32 }
+            flags: number { 23 "flags" u32 }
+            event_name: text { 24 "event_name" utf8 d }
+        }
+    };
+}
 
-static SPANS: &[Column] = main_table![
-    "start_time_unix_nano" timestamp;
-    "duration_time_unix_nano" duration d;
-    "trace_id" trace_id;
-    "span_id" span_id;
-    "trace_state" utf8 d;
-    "parent_span_id" span_id;
-    "name" utf8 d;
-    "kind" i32 d;
-    "dropped_attributes_count" u32;
-    "dropped_events_count" u32;
-    "dropped_links_count" u32;
-    "status.code" i32 d;
-    "status.status_message" utf8 d;
-    "flags" u32;
-];
+// otap_logs reads these lines too, so those in front are put before them here.
+static LOGS: &[Column] = log_columns!(main_table column_list);
 
-static METRICS: &[Column] = main_table![
-    "metric_type" u8;
-    "name" utf8 d;
-    "description" utf8 d;
-    "unit" utf8 d;
-    "aggregation_temporality" i32 d;
-    "is_monotonic" bool;
-];
+static LOG_GROUPS: &[ColumnGroup] = log_columns!(main_table group_list);
 
-/// The attributes of any parent, by what the parent's ids are.
-macro_rules! attributes {
-    ($id:ident) => {
-        table![
-            "parent_id" $id run;
-            "key" utf8 d;
-            "type" u8;
-            "str" utf8 d;
-            "int" i64 d;
-            "double" f64;
-            "bool" bool;
-            "bytes" binary d;
-            "ser" binary d;
-        ]
+/// The lines of spans.
+macro_rules! span_columns {
+    ($callback:ident) => {
+        main_table! {
+            $callback
+            { 9 "start_time_unix_nano" timestamp }
+            { 10 "duration_time_unix_nano" duration d }
+            { 11 "trace_id" trace_id }
+            { 12 "span_id" span_id }
+            { 13 "trace_state" utf8 d }
+            { 14 "parent_span_id" span_id }
+            { 15 "name" utf8 d }
+            { 16 "kind" i32 d }
+            { 17 "dropped_attributes_count" u32 }
+            { 18 "dropped_events_count" u32 }
+            { 19 "dropped_links_count" u32 }
+            {
+                20 "status" "code" i32 d;
+                21 "status" "status_message" utf8 d
+            }
+            { 22 "flags" u32 }
+        }
+    };
+}
+
+static SPANS: &[Column] = span_columns!(column_list);
+
+static SPAN_GROUPS: &[ColumnGroup] = span_columns!(group_list);
+
+/// The lines of metrics.
+macro_rules! metric_columns {
+    ($callback:ident) => {
+        main_table! {
+            $callback
+            { 9 "metric_type" u8 }
+            { 10 "name" utf8 d }
+            { 11 "description" utf8 d }
+            { 12 "unit" utf8 d }
+            { 13 "aggregation_temporality" i32 d }
+            { 14 "is_monotonic" bool }
+        }
+    };
+}
+
+static METRICS: &[Column] = metric_columns!(column_list);
+
+static METRIC_GROUPS: &[ColumnGroup] = metric_columns!(group_list);
+
+/// The lines of attributes of any parent, by what the parent's ids are.
+macro_rules! attribute_columns {
+    ($callback:ident $id:ident) => {
+        $callback! {
+            { 0 "parent_id" $id run }
+            { 1 "key" utf8 d }
+            { 2 "type" u8 }
+            { 3 "str" utf8 d }
+            { 4 "int" i64 d }
+            { 5 "double" f64 }
+            { 6 "bool" bool }
+            { 7 "bytes" binary d }
+            { 8 "ser" binary d }
+        }
     };
 }
 
 /// The attributes of resources, scopes, log records and spans.
-static ATTRS: &[Column] = attributes!(id);
+static ATTRS: &[Column] = attribute_columns!(column_list id);
 
 /// The attributes of points, exemplars, events and links.
-static DEEP_ATTRS: &[Column] = attributes!(wide_id);
+static DEEP_ATTRS: &[Column] = attribute_columns!(column_list wide_id);
 
-static SPAN_EVENTS: &[Column] = table![
-    "id" wide_id delta;
-    "parent_id" id run;
-    "time_unix_nano" timestamp;
-    "name" utf8 d;
-    "dropped_attributes_count" u32;
-];
+static ATTR_GROUPS: &[ColumnGroup] = attribute_columns!(group_list id);
 
-static SPAN_LINKS: &[Column] = table![
-    "id" wide_id delta;
-    "parent_id" id run;
-    "trace_id" trace_id;
-    "span_id" span_id;
-    "trace_state" utf8 d;
-    "dropped_attributes_count" u32;
-    "flags" u32;
-];
-
-/// Points of a metric: the point's own id, its metric and its times, and then the lines of the shape.
-macro_rules! points {
-    ($($line:tt)*) => {
-        table![
-            "id" wide_id delta;
-            "parent_id" id delta;
-            "start_time_unix_nano" timestamp;
-            "time_unix_nano" timestamp;
-            $($line)*
-        ]
+/// The lines of events of spans.
+macro_rules! event_columns {
+    ($callback:ident) => {
+        $callback! {
+            { 0 "id" wide_id delta }
+            { 1 "parent_id" id run }
+            { 2 "time_unix_nano" timestamp }
+            { 3 "name" utf8 d }
+            { 4 "dropped_attributes_count" u32 }
+        }
     };
 }
 
-static NUMBER_POINTS: &[Column] = points![
-    "int_value" i64;
-    "double_value" f64;
-    "flags" u32;
-];
+static SPAN_EVENTS: &[Column] = event_columns!(column_list);
 
-static SUMMARY_POINTS: &[Column] = points![
-    "count" u64;
-    "sum" f64;
-    "quantiles" list_f64;
-    "quantile_values" list_f64;
-    "flags" u32;
-];
+static EVENT_GROUPS: &[ColumnGroup] = event_columns!(group_list);
 
-static HIST_POINTS: &[Column] = points![
-    "count" u64;
-    "bucket_counts" list_u64;
-    "explicit_bounds" list_f64;
-    "sum" f64;
-    "flags" u32;
-    "min" f64;
-    "max" f64;
-];
+/// The lines of links of spans.
+macro_rules! link_columns {
+    ($callback:ident) => {
+        $callback! {
+            { 0 "id" wide_id delta }
+            { 1 "parent_id" id run }
+            { 2 "trace_id" trace_id }
+            { 3 "span_id" span_id }
+            { 4 "trace_state" utf8 d }
+            { 5 "dropped_attributes_count" u32 }
+            { 6 "flags" u32 }
+        }
+    };
+}
 
-static EXEMPLARS: &[Column] = table![
-    "id" wide_id delta;
-    "parent_id" wide_id delta;
-    "time_unix_nano" timestamp;
-    "int_value" i64;
-    "double_value" f64;
-    "span_id" span_id;
-    "trace_id" trace_id;
-];
+static SPAN_LINKS: &[Column] = link_columns!(column_list);
+
+static LINK_GROUPS: &[ColumnGroup] = link_columns!(group_list);
+
+/// The lines of points of gauges and sums.
+macro_rules! number_point_columns {
+    ($callback:ident) => {
+        $callback! {
+            { 0 "id" wide_id delta }
+            { 1 "parent_id" id delta }
+            { 2 "start_time_unix_nano" timestamp }
+            { 3 "time_unix_nano" timestamp }
+            { 4 "int_value" i64 }
+            { 5 "double_value" f64 }
+            { 6 "flags" u32 }
+        }
+    };
+}
+
+static NUMBER_POINTS: &[Column] = number_point_columns!(column_list);
+
+static NUMBER_POINT_GROUPS: &[ColumnGroup] = number_point_columns!(group_list);
+
+/// The lines of points of summaries.
+macro_rules! summary_point_columns {
+    ($callback:ident) => {
+        $callback! {
+            { 0 "id" wide_id delta }
+            { 1 "parent_id" id delta }
+            { 2 "start_time_unix_nano" timestamp }
+            { 3 "time_unix_nano" timestamp }
+            { 4 "count" u64 }
+            { 5 "sum" f64 }
+            { 6 "quantiles" list_f64 }
+            { 7 "quantile_values" list_f64 }
+            { 8 "flags" u32 }
+        }
+    };
+}
+
+static SUMMARY_POINTS: &[Column] = summary_point_columns!(column_list);
+
+static SUMMARY_POINT_GROUPS: &[ColumnGroup] = summary_point_columns!(group_list);
+
+/// The lines of points of histograms.
+macro_rules! hist_point_columns {
+    ($callback:ident) => {
+        $callback! {
+            { 0 "id" wide_id delta }
+            { 1 "parent_id" id delta }
+            { 2 "start_time_unix_nano" timestamp }
+            { 3 "time_unix_nano" timestamp }
+            { 4 "count" u64 }
+            { 5 "bucket_counts" list_u64 }
+            { 6 "explicit_bounds" list_f64 }
+            { 7 "sum" f64 }
+            { 8 "flags" u32 }
+            { 9 "min" f64 }
+            { 10 "max" f64 }
+        }
+    };
+}
+
+static HIST_POINTS: &[Column] = hist_point_columns!(column_list);
+
+static HIST_POINT_GROUPS: &[ColumnGroup] = hist_point_columns!(group_list);
+
+/// The lines of exemplars.
+macro_rules! exemplar_columns {
+    ($callback:ident) => {
+        $callback! {
+            { 0 "id" wide_id delta }
+            { 1 "parent_id" wide_id delta }
+            { 2 "time_unix_nano" timestamp }
+            { 3 "int_value" i64 }
+            { 4 "double_value" f64 }
+            { 5 "span_id" span_id }
+            { 6 "trace_id" trace_id }
+        }
+    };
+}
+
+static EXEMPLARS: &[Column] = exemplar_columns!(column_list);
+
+static EXEMPLAR_GROUPS: &[ColumnGroup] = exemplar_columns!(group_list);
 
 /// The columns of the tables of a kind, in their order; a column is named by its index here.
 #[tactic(auto, unfolding(crate::specs::Columns::logs, crate::specs::Columns::spans, crate::specs::Columns::metrics, crate::specs::Columns::attrs, crate::specs::Columns::deep_attrs, crate::specs::Columns::span_events, crate::specs::Columns::span_links, crate::specs::Columns::number_points, crate::specs::Columns::summary_points, crate::specs::Columns::hist_points, crate::specs::Columns::exemplars))]
@@ -370,6 +511,36 @@ pub fn columns(kind: Kind) -> &'static [Column]
         Kind::Spans => SPANS,
         Kind::SpanEvents => SPAN_EVENTS,
         Kind::SpanLinks => SPAN_LINKS,
+    }
+}
+
+/// The groups of the columns of a kind, in their order.
+#[tactic(auto, unfolding(crate::specs::Groups::grouped, crate::specs::Columns::logs, crate::specs::Columns::spans, crate::specs::Columns::metrics, crate::specs::Columns::attrs, crate::specs::Columns::deep_attrs, crate::specs::Columns::span_events, crate::specs::Columns::span_links, crate::specs::Columns::number_points, crate::specs::Columns::summary_points, crate::specs::Columns::hist_points, crate::specs::Columns::exemplars))]
+pub fn column_groups(kind: Kind) -> &'static [ColumnGroup]
+    ensures are { map group_in result.now ≡ grouped (columns_of kind) }
+    ensures within { All (IsWithin (width_of kind)) result.now }
+{
+    match kind {
+        Kind::ResourceAttrs
+        | Kind::ScopeAttrs
+        | Kind::LogAttrs
+        | Kind::SpanAttrs
+        | Kind::NumberPointAttrs
+        | Kind::SummaryPointAttrs
+        | Kind::HistPointAttrs
+        | Kind::NumberExemplarAttrs
+        | Kind::HistExemplarAttrs
+        | Kind::EventAttrs
+        | Kind::LinkAttrs => ATTR_GROUPS,
+        Kind::Metrics => METRIC_GROUPS,
+        Kind::NumberPoints => NUMBER_POINT_GROUPS,
+        Kind::SummaryPoints => SUMMARY_POINT_GROUPS,
+        Kind::HistPoints => HIST_POINT_GROUPS,
+        Kind::NumberExemplars | Kind::HistExemplars => EXEMPLAR_GROUPS,
+        Kind::Logs => LOG_GROUPS,
+        Kind::Spans => SPAN_GROUPS,
+        Kind::SpanEvents => EVENT_GROUPS,
+        Kind::SpanLinks => LINK_GROUPS,
     }
 }
 

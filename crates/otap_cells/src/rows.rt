@@ -1,7 +1,7 @@
 ghost use Rattle.std.specs.Prelude.{◌≡◌, ◌<◌, true, length};
 ghost use Rattle.otap_cells.specs.Cells.{seen, IsCellOf};
 ghost use Rattle.otap_cells.specs.Columns.{base_at, is_id_at, width_of};
-ghost use Rattle.otap_cells.specs.Tables.{Table, IsTable, cell_in, coding_in, greatest_in};
+ghost use Rattle.otap_cells.specs.Tables.{Table, IsNullColumn, IsTable, cell_in, coding_in, greatest_in};
 
 use crate::payload::Kind;
 use crate::profile::Coding;
@@ -27,6 +27,11 @@ pub trait Rows {
         requires row { row < length (table self.now).rows }
         ensures value { seen result ≡ cell_in (table self.now).rows column row }
         ensures fits { IsCellOf (base_at (table self.now).kind column) (seen result) };
+
+    /// Whether the table is known to lack a column: each of its cells is null. `false` says nothing of the cells. In constant time.
+    fn lacks(&self, column: u32) -> bool
+        requires { column < width_of (table self.now).kind }
+        ensures { result ≡ true → IsNullColumn (table self.now).rows column };
 
     /// How the ids of a column are stored: in a way that the column allows.
     fn coding(&self, column: u32) -> Coding

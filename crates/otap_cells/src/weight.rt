@@ -40,13 +40,16 @@ fn table_weight<R: Rows>(rows: &R) -> u64
     total
 }
 
-/// The bytes of a column's cells. A column of another base isn't visited.
+/// The bytes of a column's cells. Neither a column of another base nor one that the table lacks is gone over.
 fn column_weight<R: Rows>(rows: &R, column: u32) -> u64
     requires { column < width_of (R.table rows.now).kind }
     ensures { result ≡ min (sum_by cell_weight (column_in (R.table rows.now).rows column)) count_cap }
 {
     let count = rows.rows();
     if !base_of(rows.kind(), column).has_bytes() {
+        return 0;
+    }
+    if rows.lacks(column) {
         return 0;
     }
     let mut total = 0;

@@ -21,7 +21,7 @@ use Rattle.otap_groups.specs.Stored.{main_table, stored_rows}
 use Rattle.otap_groups.proofs.ProfileRows.{is_profile_table}
 use Rattle.otap_groups.proofs.StoredRows.{own_ids_of, resource_ids_of, scope_ids_of}
 use Rattle.otap_attrs.proofs.FilledTables.{Tells, filled, filled_all, filled_weigh, kinds_filled}
-use Rattle.otap_checks.specs.declared.links.TableLink.{TableLink}
+use Rattle.otap_checks.specs.declared.signals.TableLink.{TableLink}
 use Rattle.otap_checks.specs.Links.{links_of}
 use Rattle.otap_checks.specs.Written.{AreApart, IsMainKind, Written, table_of, tables_written}
 use Rattle.otap_checks.proofs.NamedWritten.{kind_of, written_named}

@@ -20,7 +20,7 @@ use Rattle.otap_cells.specs.Cells as cell
 use Rattle.otap_cells.specs.Columns.{is_id_at, name_at, width_of}
 use Rattle.otap_cells.specs.ColumnIds.{HasNullParent, stored_in}
 use Rattle.otap_cells.specs.Continuing.{continues_in}
-use Rattle.otap_cells.specs.GivenIds.{HasIds}
+use Rattle.otap_cells.specs.GivenIds.{ColumnDefect, HasIds}
 use Rattle.otap_cells.specs.Ids.{Twice, fits_after, undone_after}
 use Rattle.otap_cells.specs.Named.{table_named}
 use Rattle.otap_cells.specs.Tables.{Table, coding_in, greatest_in}
@@ -34,11 +34,11 @@ use Rattle.otap_attrs.specs.Values.{BadValue, value_type_in, nested_in}
 use Rattle.otap_attrs.specs.Inside.{BadNested}
 use Rattle.otap_attrs.proofs.ValueFaults.{nested_is_fine, map_is_fine, array_is_fine}
 use Rattle.otap_attrs.proofs.ValueLaws.{flat_is_fine}
-use Rattle.otap_checks.specs.declared.links.TableLink.{TableLink}
-use Rattle.otap_checks.specs.declared.links.Parents.{Parents}
+use Rattle.otap_checks.specs.declared.signals.TableLink.{TableLink}
+use Rattle.otap_checks.specs.declared.signals.Parents.{Parents}
 use Rattle.otap_checks.specs.Deciding.{CleanOrWrong, HasByteCells}
 use Rattle.otap_attrs.specs.Defects.{OrphanIn, WrongValue}
-use Rattle.otap_checks.specs.IdDefects.{PastType, Duplicate, Orphan, Some_column, DuplicateOf, OrphanOf, WrongIn, IdDefect}
+use Rattle.otap_checks.specs.IdDefects.{Duplicate, Orphan, Some_column, DuplicateOf, OrphanOf, WrongIn, IdDefect}
 use Rattle.otap_checks.specs.Given.{AreGiven, IsGiven}
 use Rattle.otap_checks.specs.Links.{links_of}
 use Rattle.otap_checks.specs.Reading.{ResourcesDiffer, ScopesDiffer, Disagrees}
@@ -72,14 +72,14 @@ null_parent_or_not t column = by_name (cases_Bool (bytes_eq (name_at t.kind colu
 
 -- what is wrong with a column of a table
 abbrev Faulty : Table → Type 0
-Faulty t = Some_column PastType t ⊎ Some_column HasNullParent t
+Faulty t = Some_column (ColumnDefect fault.PastType) t ⊎ Some_column (ColumnDefect fault.NullParent) t
 
 column_given : (t : Table) (column : ℕ) → is_id_at t.kind column ≡ true → IsGiven t column ⊎ Faulty t
 column_given t column id = elim (null_parent_or_not t column) [
   | inl null ↦ inr (inr (column, id, null))
   | inr none ↦ elim (ids_or_none t column) [
     | inl given ↦ inl (record { ids = given.0; are = given.1; parents = none })
-    | inr unknown ↦ inr (inl (column, id, record { summed = λ runs. none; none = unknown }))
+    | inr unknown ↦ inr (inl (column, id, (none, unknown)))
   ]
 ]
 
@@ -127,12 +127,12 @@ parents_or_not tables t (Some p) = by_ids (ids_or_none t p.column) (ids_or_none 
   where
     by_ids : ((ids : List (Option ℕ)) × HasIds t p.column ids) ⊎ IsUnknown t p.column
         → ((ids : List (Option ℕ)) × HasIds (table_named p.of tables) p.at ids) ⊎ IsUnknown (table_named p.of tables) p.at → Lost tables t p ⊎ (Lost tables t p → ⊥)
-    by_ids (inr unknown) known = inr (λ (o : Lost tables t p). unknown o.parents o.are)
+    by_ids (inr unknown) known = inr (λ (o : Lost tables t p). unknown o.lost.parents o.lost.are)
     by_ids (inl named) (inr unknown) = inr (λ (o : Lost tables t p). unknown o.ids o.known)
     by_ids (inl named) (inl known) = elim (orphan_or_not named.0 known.0) [
-      | inl orphan ↦ inl (record { parents = named.0; ids = known.0; are = named.1; known = known.1; orphan = orphan })
-      | inr none ↦ inr (λ (o : Lost tables t p). none (subst (λ ids. OrphanIn ids known.0) (one_given t p.column o.parents named.0 o.are named.1)
-          (subst (OrphanIn o.parents) (one_given (table_named p.of tables) p.at o.ids known.0 o.known known.1) o.orphan)))
+      | inl orphan ↦ inl (record { ids = known.0; known = known.1; lost = record { parents = named.0; are = named.1; orphan = orphan } })
+      | inr none ↦ inr (λ (o : Lost tables t p). none (subst (λ ids. OrphanIn ids known.0) (one_given t p.column o.lost.parents named.0 o.lost.are named.1)
+          (subst (OrphanIn o.lost.parents) (one_given (table_named p.of tables) p.at o.ids known.0 o.known known.1) o.lost.orphan)))
     ]
 
 -- ---- tables

@@ -18,7 +18,7 @@ use Rattle.otap_groups.proofs.GroupsApart.{item_there, own_once, resource_there,
 use Rattle.otap_groups.proofs.PartTables.{ids_of, part_there}
 use Rattle.otap_groups.proofs.StoredRows.{own_ids_of, part_ids_of, resource_ids_of, scope_ids_of}
 use Rattle.otap_attrs.specs.declared.refusal.RowRefusal.{RowRefusal}
-use Rattle.otap_checks.specs.declared.links.TableLink.{TableLink}
+use Rattle.otap_checks.specs.declared.signals.TableLink.{TableLink}
 use Rattle.otap_checks.specs.IdDefects.{IdDefect, WrongIn}
 use Rattle.otap_checks.specs.Given.{AreGiven, IsGiven}
 use Rattle.otap_checks.specs.Links.{items, links_of}

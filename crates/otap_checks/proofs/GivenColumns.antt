@@ -14,8 +14,8 @@ use Rattle.otap_cells.specs.ColumnIds.{RefusesIds, stored_in}
 use Rattle.otap_cells.specs.Continuing.{continues_in}
 use Rattle.otap_cells.specs.GivenIds.{HasIds}
 use Rattle.otap_cells.proofs.IdLaws.{one_list}
-use Rattle.otap_checks.specs.declared.links.TableLink.{TableLink}
-use Rattle.otap_checks.specs.declared.links.Parents.{Parents}
+use Rattle.otap_checks.specs.declared.signals.TableLink.{TableLink}
+use Rattle.otap_checks.specs.declared.signals.Parents.{Parents}
 use Rattle.otap_attrs.specs.Defects.{OrphanIn, RefusesRow}
 use Rattle.otap_checks.specs.IdDefects.{Duplicate, DuplicateOf, Orphan, OrphanOf, WrongIn}
 use Rattle.otap_checks.specs.Inside.{ColumnFault}
@@ -26,7 +26,7 @@ pub column_refused : (t : Table) (column : ℕ) (continues : List Bool) (inner :
     → RefusesIds t column continues inner → RefusesRow (ColumnFault t) (refusal_of_ids inner)
 column_refused t column continues (refusal.Memory error) is id refuses = tt
 column_refused t column continues (refusal.Ids fault.PastType) is id refuses =
-    (column, id, record { summed = λ runs null. refuses.0 null; none = λ ids are. refuses.1 ids (rw is are) })
+    (column, id, (refuses.0, λ ids are. refuses.1 ids (rw is are)))
 column_refused t column continues (refusal.Ids fault.NullParent) is id refuses = (column, id, refuses)
 column_refused t column continues (refusal.Ids fault.Duplicate) is id refuses = absurd refuses
 
@@ -37,7 +37,7 @@ one_given t column xs ys a b = one_list (coding_in t column) (greatest_in t colu
 -- nothing is wrong with a table whose columns, own ids and parents are fine
 pub nothing_wrong : (tables : List Table) (t : Table) (link : TableLink) → AreGiven t → (DuplicateOf t link.own → ⊥) → (OrphanOf tables t link.parents → ⊥)
     → (wrong : RowRefusal) → WrongIn tables t link wrong → ⊥
-nothing_wrong tables t link given own parents (why.Ids fault.PastType) is = let here = given is.0 is.1 in is.2.none here.ids here.are
+nothing_wrong tables t link given own parents (why.Ids fault.PastType) is = let here = given is.0 is.1 in is.2.1 here.ids here.are
 nothing_wrong tables t link given own parents (why.Ids fault.NullParent) is = (given is.0 is.1).parents is.2
 nothing_wrong tables t link given own parents (why.Ids fault.Duplicate) is = own is
 nothing_wrong tables t link given own parents why.Orphan is = parents is
@@ -59,11 +59,11 @@ pub no_orphan : (tables : List Table) (t : Table) (parents : Option Parents) (ab
     → HasIds t above.column named → HasIds (table_named above.of tables) above.at known → (OrphanIn named known → ⊥) → OrphanOf tables t parents → ⊥
 no_orphan tables t parents above named known is are are_known none orphan =
     let here : Orphan t above.column (table_named above.of tables) above.at = subst (OrphanOf tables t) is orphan in
-    none (subst (λ ids. OrphanIn ids known) (one_given t above.column here.parents named here.are are)
-    (subst (OrphanIn here.parents) (one_given (table_named above.of tables) above.at here.ids known here.known are_known) here.orphan))
+    none (subst (λ ids. OrphanIn ids known) (one_given t above.column here.lost.parents named here.lost.are are)
+    (subst (OrphanIn here.lost.parents) (one_given (table_named above.of tables) above.at here.ids known here.known are_known) here.lost.orphan))
 
 pub an_orphan : (tables : List Table) (t : Table) (parents : Option Parents) (above : Parents) (named known : List (Option ℕ)) → parents ≡ Some above
     → HasIds t above.column named → HasIds (table_named above.of tables) above.at known → OrphanIn named known → OrphanOf tables t parents
 an_orphan tables t parents above named known is are are_known orphan =
-    let here : Orphan t above.column (table_named above.of tables) above.at = record { parents = named; ids = known; are = are; known = are_known; orphan = orphan } in
+    let here : Orphan t above.column (table_named above.of tables) above.at = record { ids = known; known = are_known; lost = record { parents = named; are = are; orphan = orphan } } in
     subst (OrphanOf tables t) (sym is) here

@@ -17,8 +17,8 @@ use Rattle.otap_checks.specs.RowDefects.{RowDefect}
 use Rattle.otap_checks.specs.Ruled.{Keeps}
 use Rattle.otap_checks.specs.Rules.{rule, rules_of}
 use Rattle.otap_checks.specs.declared.known.ColumnIds.{ColumnIds}
-use Rattle.otap_checks.specs.declared.rules.Asks.TheVariants as asks
-use Rattle.otap_checks.specs.declared.rules.CellRule.{CellRule}
+use Rattle.otap_checks.specs.declared.signals.Asks.TheVariants as asks
+use Rattle.otap_checks.specs.declared.signals.CellRule.{CellRule}
 use Rattle.otap_checks.proofs.RulesDecided.{agree_alone}
 use Rattle.otap_checks.proofs.RulesFit.{all_kept}
 use Rattle.otap_checks.proofs.TableIds.{disagrees_too, has_them}

@@ -1,9 +1,9 @@
 -- Steps of reading the ids of tables: one more column, and one more table.
-use Rattle.std.proofs.Common.{◌≡◌, ℕ, ◌<◌, ◌+◌, true, false, List, [], ◌∷◌, ◌++◌, get_or, length, inl, inr, refl, sym, ◌∙◌, ap, subst, arith}
-use Rattle.std.specs.Prelude.{Contains}
+use Rattle.std.proofs.Common.{◌≡◌, ℕ, ◌<◌, ◌+◌, true, false, List, [], ◌∷◌, ◌++◌, get_or, length, inl, inr, refl, sym, ◌∙◌, ap, subst, arith, Result, Ok, Err}
+use Rattle.std.specs.Prelude.{All, Contains, OnOk}
 use Rattle.std.proofs.lemmas.Bool.{cases_eq, eq-eqb, false≢true}
 use Rattle.std.proofs.lemmas.List.{get_or_default}
-use Rattle.std.proofs.lemmas.List.Elements.{Contains-append_left, Contains-append_right}
+use Rattle.std.proofs.lemmas.List.Elements.{All-push, Contains-append_left, Contains-append_right}
 use Rattle.otap_cells.specs.declared.payload.Kind.{Kind}
 use Rattle.otap_cells.specs.Columns.{is_id_at}
 use Rattle.otap_cells.specs.Named.{table_named}
@@ -13,11 +13,13 @@ use Rattle.otap_attrs.specs.declared.refusal.RowRefusal.{RowRefusal}
 use Rattle.otap_attrs.specs.declared.refusal.RowRefusal.TheVariants as why
 use Rattle.otap_attrs.specs.declared.refusal.CheckRefusal.{CheckRefusal}
 use Rattle.otap_attrs.specs.declared.refusal.CheckRefusal.TheVariants as check
+use Rattle.otap_attrs.specs.Facts.{HasWeights}
 use Rattle.otap_checks.specs.declared.known.ColumnIds.{ColumnIds}
-use Rattle.otap_checks.specs.declared.links.TableLink.{TableLink}
+use Rattle.otap_checks.specs.declared.known.PairWeights.{PairWeights}
+use Rattle.otap_checks.specs.declared.signals.TableLink.{TableLink}
 use Rattle.otap_checks.specs.Inside.{ColumnFault, ColumnWrong, ColumnsWrong, HasColumns, KeepsIds, KnownFault}
 use Rattle.otap_checks.specs.Refusing.{refused_as, RefusesCheck}
-use Rattle.otap_checks.specs.Known.{is_of_column}
+use Rattle.otap_checks.specs.Known.{IsWeighed, is_of_column}
 use Rattle.otap_attrs.specs.Defects.{RefusesRow}
 
 -- the columns of ids below a place are there
@@ -88,3 +90,18 @@ pub column_refusal : (tables : List Table) (links : List TableLink) (place : ℕ
 column_refusal tables links place d (check.Memory error) within refuses = tt
 column_refusal tables links place d (check.Defect kind wrong) within refuses =
     let link : TableLink = get_or links place d in (link, (place, within, get_or_default links place link d within), refuses)
+
+-- ---- weights
+
+-- the weights of one table more
+pub one_weighed_more : (t : Table) (tables : List Table) (old new : List PairWeights) (known : PairWeights) → t.kind ≡ known.kind → HasWeights t known.weights.items
+    → table_named t.kind tables ≡ t → new ≡ old ++ known ∷ [] → All (IsWeighed tables) old → All (IsWeighed tables) new
+one_weighed_more t tables old new known same has named pushed before =
+    let here : IsWeighed tables known =
+    subst (λ u. HasWeights u known.weights.items) (sym named ∙ ap (λ kind. table_named kind tables) same) has in
+    subst (All (IsWeighed tables)) (sym pushed) (All-push (IsWeighed tables) old known before here)
+
+-- what holds whatever comes of a call
+pub in_any_case : {T E : Type 0} (r : Result T E) (A : Type 0) → A → OnOk r A
+in_any_case (Ok value) A is = is
+in_any_case (Err error) A is = tt

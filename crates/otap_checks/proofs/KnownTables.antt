@@ -16,10 +16,10 @@ use Rattle.otap_attrs.specs.declared.refusal.RowRefusal.TheVariants as why
 use Rattle.otap_attrs.specs.declared.refusal.CheckRefusal.{CheckRefusal}
 use Rattle.otap_attrs.specs.declared.refusal.CheckRefusal.TheVariants as check
 use Rattle.otap_checks.specs.declared.known.ColumnIds.{ColumnIds}
-use Rattle.otap_checks.specs.declared.links.TableLink.{TableLink}
-use Rattle.otap_checks.specs.declared.links.Parents.{Parents}
+use Rattle.otap_checks.specs.declared.signals.TableLink.{TableLink}
+use Rattle.otap_checks.specs.declared.signals.Parents.{Parents}
 use Rattle.otap_checks.specs.IdDefects.{DuplicateOf, IdDefect, OrphanOf, WrongIn}
-use Rattle.otap_checks.specs.Inside.{HasColumns, IsLost, IsRight, KnownFault, KnownFaults, OwnTwice}
+use Rattle.otap_checks.specs.Inside.{ColumnFault, ColumnsWrong, HasColumns, IsLost, IsRight, KnownFault, KnownFaults, OwnTwice}
 use Rattle.otap_checks.specs.Given.{AreGiven}
 use Rattle.otap_checks.specs.Known.{IsKnown, Knows, ids_named, is_of_column}
 use Rattle.otap_checks.specs.Links.{links_of}
@@ -141,3 +141,28 @@ module _ (of : Signal) (tables : List Table) (known : List ColumnIds) (all : (li
       let at : Contains links defect.link = subst (λ links. Contains links defect.link) (sym are) defect.listed in
       clean_in defect.link defect.listed (subst (λ (one : TableLink). (wrong : RowRefusal) → KnownFault known one wrong → ⊥) at.2 (fine at.0 defect.link at.1)) wrong
       (subst (λ kind. WrongIn tables (table_named kind tables) defect.link wrong) (sym defect.names) defect.is)
+
+-- what is wrong with a column is wrong with its table
+column_fault_in : (tables : List Table) (t : Table) (link : TableLink) (wrong : RowRefusal) → ColumnFault t wrong → WrongIn tables t link wrong
+column_fault_in tables t link (why.Ids fault.PastType) is = is
+column_fault_in tables t link (why.Ids fault.NullParent) is = is
+column_fault_in tables t link (why.Ids fault.Duplicate) is = absurd is
+column_fault_in tables t link why.Orphan is = absurd is
+column_fault_in tables t link why.Disagree is = absurd is
+column_fault_in tables t link why.BadValueType is = absurd is
+column_fault_in tables t link (why.BadCbor refusal) is = absurd is
+column_fault_in tables t link why.TwoValues is = absurd is
+column_fault_in tables t link why.BadKind is = absurd is
+column_fault_in tables t link (why.Memory error) is = absurd is
+
+pub columns_refused : (of : Signal) (tables : List Table) (links : List TableLink) (refusal : CheckRefusal) → links ≡ links_of of
+    → RefusesCheck (ColumnsWrong tables links) refusal → RefusesCheck (IdDefect of tables) refusal
+columns_refused of tables links (check.Memory error) are refuses = tt
+columns_refused of tables links (check.Defect kind wrong) are refuses =
+    let link : TableLink = refuses.0 in record {
+      link = link;
+      listed = subst (λ links. Contains links link) are refuses.1;
+      names = sym refuses.2.0;
+      is = subst (λ kind. WrongIn tables (table_named kind tables) link wrong) (sym refuses.2.0)
+          (column_fault_in tables (table_named link.kind tables) link wrong refuses.2.1);
+    }

@@ -8,9 +8,9 @@ use Rattle.otlp_model.specs.declared.request.Signal.{Signal}
 use Rattle.otlp_model.specs.declared.request.Signal.TheVariants as signal
 use Rattle.otap_cells.specs.declared.payload.Kind.{Kind}
 use Rattle.otap_cells.specs.declared.payload.Kind.TheVariants as table
-use Rattle.otap_checks.specs.declared.links.Parents.{Parents}
+use Rattle.otap_checks.specs.declared.signals.Parents.{Parents}
 use Rattle.otap_cells.specs.Columns.{is_id_at, name_at, logs, spans, metrics, attrs, deep_attrs, span_events, span_links, number_points, summary_points, hist_points, exemplars}
-use Rattle.otap_checks.specs.declared.links.TableLink.{TableLink}
+use Rattle.otap_checks.specs.declared.signals.TableLink.{TableLink}
 use Rattle.otap_checks.specs.Links.{links_of, items, parts, attributes_link}
 
 -- a column that is named is one of ids

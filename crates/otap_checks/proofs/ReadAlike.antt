@@ -8,7 +8,7 @@ use Rattle.otap_cells.specs.declared.ids.IdFault.TheVariants as fault
 use Rattle.otap_cells.specs.Cells.{Cell}
 use Rattle.otap_cells.specs.Columns.{is_id_at, name_at}
 use Rattle.otap_cells.specs.ColumnIds.{HasNullParent, id_in}
-use Rattle.otap_cells.specs.GivenIds.{HasIds, ids_in, ReadsAs, ReadAs}
+use Rattle.otap_cells.specs.GivenIds.{ColumnDefect, HasIds, ids_in, ReadsAs, ReadAs}
 use Rattle.otap_cells.specs.Named.{table_named}
 use Rattle.otap_cells.specs.Payload.{is_kind}
 use Rattle.otap_cells.specs.Tables.{Table, column_in, profile_table}
@@ -18,9 +18,9 @@ use Rattle.otap_groups.specs.Rows.{MainRow, main_rows, child_rows}
 use Rattle.otap_attrs.specs.declared.refusal.RowRefusal.{RowRefusal}
 use Rattle.otap_attrs.specs.declared.refusal.RowRefusal.TheVariants as why
 use Rattle.otap_attrs.specs.Values.{BadValue, pair_in}
-use Rattle.otap_checks.specs.declared.links.TableLink.{TableLink}
-use Rattle.otap_checks.specs.declared.links.Parents.{Parents}
-use Rattle.otap_checks.specs.IdDefects.{PastType, DuplicateOf, OrphanOf, WrongIn, IdDefect}
+use Rattle.otap_checks.specs.declared.signals.TableLink.{TableLink}
+use Rattle.otap_checks.specs.declared.signals.Parents.{Parents}
+use Rattle.otap_checks.specs.IdDefects.{DuplicateOf, OrphanOf, WrongIn, IdDefect}
 use Rattle.otap_checks.specs.Links.{links_of}
 use Rattle.otap_attrs.specs.Index.{pairs_in}
 use Rattle.otap_checks.specs.Reading.{HasAllIds, main_rows_in, Disagrees}
@@ -79,10 +79,10 @@ module _ (a b : Table) (reads : ReadsAs a b) (given : HasAllIds b) where
   id_there : (column : ℕ) → is_id_at a.kind column ≡ true → is_id_at b.kind column ≡ true
   id_there column id = ap (λ kind. is_id_at kind column) (sym reads.same.kind) ∙ id
 
-  never_past : (column : ℕ) → is_id_at a.kind column ≡ true → PastType a column → ⊥
+  never_past : (column : ℕ) → is_id_at a.kind column ≡ true → ColumnDefect fault.PastType a column → ⊥
   never_past column id past =
       let other = given column (id_there column id) in
-      past.none other.0 (reads.ids column other.0 (id_there column id) other.1)
+      past.1 other.0 (reads.ids column other.0 (id_there column id) other.1)
 
   duplicate_told : (own : Option ℕ) → IsIdOrNone b.kind own → DuplicateOf a own → DuplicateOf b own
   duplicate_told None linked is = absurd is
@@ -118,13 +118,15 @@ module _ (of : Signal) (tables others : List Table) (reads : ReadAs tables other
   orphan_told : (kind : Kind) (parents : Option Parents) → IsAboveOrNone kind parents → OrphanOf tables (table_named kind tables) parents → OrphanOf others (table_named kind others) parents
   orphan_told kind None above is = absurd is
   orphan_told kind (Some p) above is = record {
-    parents = is.parents;
     ids = is.ids;
-    are = ids_told (table_named kind tables) (table_named kind others) (reads_named tables others kind reads) (all_ids_named others kind given)
-        p.column is.parents (ap (λ k. is_id_at k p.column) (kind_named others kind) ∙ above.column) is.are;
     known = ids_told (table_named p.of tables) (table_named p.of others) (reads_named tables others p.of reads) (all_ids_named others p.of given)
         p.at is.ids (ap (λ k. is_id_at k p.at) (kind_named others p.of) ∙ above.at) is.known;
-    orphan = is.orphan;
+    lost = record {
+      parents = is.lost.parents;
+      are = ids_told (table_named kind tables) (table_named kind others) (reads_named tables others kind reads) (all_ids_named others kind given)
+          p.column is.lost.parents (ap (λ k. is_id_at k p.column) (kind_named others kind) ∙ above.column) is.lost.are;
+      orphan = is.lost.orphan;
+    };
   }
 
   wrong_told : (link : TableLink) (wrong : RowRefusal) → IsLinked link → WrongIn tables (table_named link.kind tables) link wrong → WrongIn others (table_named link.kind others) link wrong

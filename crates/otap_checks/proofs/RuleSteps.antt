@@ -6,7 +6,7 @@ use Rattle.otap_cells.specs.declared.payload.Kind.{Kind}
 use Rattle.otap_cells.specs.Tables.{Table, profile_table}
 use Rattle.otap_checks.specs.Reading.{Disagrees}
 use Rattle.otap_checks.proofs.MissingRows.{none_differ}
-use Rattle.otap_checks.specs.declared.rules.CellRule.{CellRule}
+use Rattle.otap_checks.specs.declared.signals.CellRule.{CellRule}
 use Rattle.otap_checks.specs.Ruled.{Keeps}
 
 pub one_more : (tables : List Table) (rules : List CellRule) (place : ℕ) (e : CellRule) → place < length rules

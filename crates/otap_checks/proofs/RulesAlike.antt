@@ -17,8 +17,8 @@ use Rattle.otap_checks.specs.Reading.{HasAllIds}
 use Rattle.otap_checks.specs.RowDefects.{Breaks, RowDefect}
 use Rattle.otap_checks.specs.Ruled.{Fits}
 use Rattle.otap_checks.specs.Shapes.{WrongParent, WrongType, fits_of, is_type}
-use Rattle.otap_checks.specs.declared.rules.Asks.{Asks}
-use Rattle.otap_checks.specs.declared.rules.Asks.TheVariants as asks
+use Rattle.otap_checks.specs.declared.signals.Asks.{Asks}
+use Rattle.otap_checks.specs.declared.signals.Asks.TheVariants as asks
 use Rattle.otap_checks.proofs.MainKinds.{metrics_are_main}
 use Rattle.otap_checks.proofs.ReadAlike.{all_ids_named, disagrees_told, id_defect_told, ids_told, reads_named, value_told}
 use Rattle.otap_checks.proofs.RulesFit.{rule_fits}

@@ -21,9 +21,9 @@ use Rattle.otap_checks.specs.RowDefects.{Breaks, RowDefect}
 use Rattle.otap_checks.specs.Rules.{rules_of}
 use Rattle.otap_checks.specs.Shapes.{NamesOther, WrongParent, WrongType, fits_of, is_type, type_at}
 use Rattle.otap_checks.specs.declared.shapes.PointSort.{PointSort}
-use Rattle.otap_checks.specs.declared.rules.Asks.{Asks}
-use Rattle.otap_checks.specs.declared.rules.Asks.TheVariants as asks
-use Rattle.otap_checks.specs.declared.rules.CellRule.{CellRule}
+use Rattle.otap_checks.specs.declared.signals.Asks.{Asks}
+use Rattle.otap_checks.specs.declared.signals.Asks.TheVariants as asks
+use Rattle.otap_checks.specs.declared.signals.CellRule.{CellRule}
 use Rattle.otap_checks.proofs.CleanOrWrong.{IsUnknown, disagrees_or_not, ids_clean_or_wrong, ids_or_none, values_clean_or_wrong}
 use Rattle.otap_checks.proofs.GivenColumns.{one_given}
 

@@ -14,10 +14,10 @@ use Rattle.otap_checks.specs.Links.{links_of, items}
 use Rattle.otap_checks.specs.IdDefects.{IdDefect}
 use Rattle.otap_checks.specs.Known.{KnowsAll, Knows}
 use Rattle.otap_checks.specs.declared.known.ColumnIds.{ColumnIds}
-use Rattle.otap_checks.specs.declared.links.TableLink.{TableLink}
-use Rattle.otap_checks.specs.declared.rules.Asks.{Asks}
-use Rattle.otap_checks.specs.declared.rules.Asks.TheVariants as asks
-use Rattle.otap_checks.specs.declared.rules.CellRule.{CellRule}
+use Rattle.otap_checks.specs.declared.signals.TableLink.{TableLink}
+use Rattle.otap_checks.specs.declared.signals.Asks.{Asks}
+use Rattle.otap_checks.specs.declared.signals.Asks.TheVariants as asks
+use Rattle.otap_checks.specs.declared.signals.CellRule.{CellRule}
 use Rattle.otap_checks.specs.RowDefects.{Breaks, RowDefect}
 use Rattle.otap_checks.specs.Ruled.{AreGivenFor, FitsRule, Keeps, KnowsMetrics}
 use Rattle.otap_checks.specs.Rules.{rules_of}
@@ -32,8 +32,8 @@ AllFit (rule ∷ rules) = FitsRule rule × AllFit rules
 
 all_fit : (of : Signal) → AllFit (rules_of of)
 unfolding rules_of logs attrs deep_attrs number_points summary_points hist_points exemplars
-all_fit signal.Logs = (record { bases = refl }, (record { bases = refl }, (record { bases = refl }, (record { bases = refl }, (logs_are_main, tt)))))
-all_fit signal.Traces = (record { bases = refl }, (record { bases = refl }, (record { bases = refl }, (record { bases = refl }, (record { bases = refl }, (spans_are_main, tt))))))
+all_fit signal.Logs = (record { names = refl; bases = refl }, (record { names = refl; bases = refl }, (record { names = refl; bases = refl }, (record { names = refl; bases = refl }, (logs_are_main, tt)))))
+all_fit signal.Traces = (record { names = refl; bases = refl }, (record { names = refl; bases = refl }, (record { names = refl; bases = refl }, (record { names = refl; bases = refl }, (record { names = refl; bases = refl }, (spans_are_main, tt))))))
 all_fit signal.Metrics = (
   refl,
   (
@@ -43,13 +43,13 @@ all_fit signal.Metrics = (
       (
         (omega arith, omega arith),
         (
-          record { bases = refl },
+          record { names = refl; bases = refl },
           (
-            record { bases = refl },
+            record { names = refl; bases = refl },
             (
-              record { bases = refl },
+              record { names = refl; bases = refl },
               (
-                record { bases = refl },
+                record { names = refl; bases = refl },
                 (
                   refl,
                   (
@@ -59,11 +59,11 @@ all_fit signal.Metrics = (
                       (
                         (omega arith, omega arith),
                         (
-                          record { bases = refl },
+                          record { names = refl; bases = refl },
                           (
-                            record { bases = refl },
+                            record { names = refl; bases = refl },
                             (
-                              record { bases = refl },
+                              record { names = refl; bases = refl },
                               (
                                 metrics_are_main,
                                 tt,

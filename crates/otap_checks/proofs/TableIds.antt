@@ -19,7 +19,7 @@ use Rattle.otap_groups.specs.Rows.{MainRow, main_rows, main_row_at, cells_are, i
 use Rattle.otap_groups.specs.Disagree.{DifferBy, Disagree}
 use Rattle.otap_attrs.specs.declared.refusal.RowRefusal.{RowRefusal}
 use Rattle.otap_attrs.specs.declared.refusal.RowRefusal.TheVariants as why
-use Rattle.otap_checks.specs.declared.links.TableLink.{TableLink}
+use Rattle.otap_checks.specs.declared.signals.TableLink.{TableLink}
 use Rattle.otap_checks.specs.Links.{links_of}
 use Rattle.otap_checks.specs.IdDefects.{IdDefect}
 use Rattle.otap_checks.specs.Given.{AreGiven}
@@ -103,10 +103,7 @@ clean_given of tables kind link listed names clean column id =
         is = (
           column,
           id,
-          record {
-            summed = λ runs null. some_parent null;
-            none = λ ids are. false≢true (sym miss ∙ stands_fits (coding_in t column) (greatest_in t column) 0 (continues_in t) (stored_in t column) ids are);
-          },
+          (some_parent, λ ids are. false≢true (sym miss ∙ stands_fits (coding_in t column) (greatest_in t column) 0 (continues_in t) (stored_in t column) ids are)),
         );
       }))
     ]

@@ -5,13 +5,13 @@ use Rattle.otap_attrs.specs.declared.refusal.RowRefusal.TheVariants as why
 use Rattle.otap_cells.specs.declared.ids.IdFault.TheVariants as fault
 use Rattle.otap_cells.specs.declared.payload.Kind.{Kind}
 use Rattle.otap_cells.specs.Columns.{is_id_at}
-use Rattle.otap_cells.specs.ColumnIds.{HasNullParent}
+use Rattle.otap_cells.specs.GivenIds.{ColumnDefect}
 use Rattle.otap_cells.specs.Tables.{Table}
-use Rattle.otap_checks.specs.declared.links.TableLink.{TableLink}
-use Rattle.otap_checks.specs.declared.links.Parents.{Parents}
+use Rattle.otap_checks.specs.declared.signals.TableLink.{TableLink}
+use Rattle.otap_checks.specs.declared.signals.Parents.{Parents}
 use Rattle.otap_cells.specs.Named.{table_named}
 use Rattle.otap_attrs.specs.Defects.{OrphanIn}
-use Rattle.otap_checks.specs.IdDefects.{PastType, Some_column}
+use Rattle.otap_checks.specs.IdDefects.{Some_column}
 use Rattle.otap_checks.specs.Known.{IsKnown, ids_named, is_of_column}
 use Rattle.otap_checks.specs.declared.known.ColumnIds.{ColumnIds}
 use Rattle.otap_cells.specs.Ids.{Twice}
@@ -20,8 +20,8 @@ use Rattle.otap_cells.specs.Ids.{Twice}
 
 -- what is wrong with some column
 abbrev pub ColumnFault : Table → RowRefusal → Type 0
-ColumnFault t (why.Ids fault.PastType) = Some_column PastType t
-ColumnFault t (why.Ids fault.NullParent) = Some_column HasNullParent t
+ColumnFault t (why.Ids fault.PastType) = Some_column (ColumnDefect fault.PastType) t
+ColumnFault t (why.Ids fault.NullParent) = Some_column (ColumnDefect fault.NullParent) t
 ColumnFault t _ = ⊥
 
 -- the same of the table of a kind, and of one of the tables that hang together in these ways

@@ -3,6 +3,7 @@ use Rattle.std.specs.Prelude.{◌≡◌, ℕ, true, List, [], Option, map, drop,
 use Rattle.otap_cells.specs.Columns.{is_id_at}
 use Rattle.otap_cells.specs.GivenIds.{HasIds, ids_in}
 use Rattle.otap_cells.specs.Tables.{Table}
+use Rattle.otap_cells.specs.Places.{first_of_part, main_id, part_id, part_parent, resource_id, scope_id}
 use Rattle.otap_groups.specs.Rows.{MainRow, ChildRow, main_rows, child_rows}
 use Rattle.otap_groups.specs.Disagree.{DifferBy}
 
@@ -12,21 +13,21 @@ HasAllIds t = (column : ℕ) → is_id_at t.kind column ≡ true → (ids : List
 
 -- the rows of a main table; of parts, with their ids and parents
 abbrev pub main_rows_in : Table → List MainRow
-main_rows_in t = main_rows (ids_in t 0) (ids_in t 1) (ids_in t 4) t.rows
+main_rows_in t = main_rows (ids_in t main_id) (ids_in t resource_id) (ids_in t scope_id) t.rows
 
 abbrev pub part_rows_in : Table → List ChildRow
-part_rows_in t = child_rows (ids_in t 0) (ids_in t 1) (map (drop 2) t.rows)
+part_rows_in t = child_rows (ids_in t part_id) (ids_in t part_parent) (map (drop first_of_part) t.rows)
 
 -- rows of one resource id differ in another cell of `resource`
 pub record ResourcesDiffer (t : Table) : Type 0 where
   pub ids : List (Option ℕ)
-  pub are : HasIds t 1 ids
+  pub are : HasIds t resource_id ids
   pub differ : DifferBy (λ row. row.resource_id) (λ row. row.resource) (main_rows [] ids [] t.rows)
 
 -- rows of one scope id differ in another cell of `scope`
 pub record ScopesDiffer (t : Table) : Type 0 where
   pub ids : List (Option ℕ)
-  pub are : HasIds t 4 ids
+  pub are : HasIds t scope_id ids
   pub differ : DifferBy (λ row. row.scope_id) (λ row. row.scope) (main_rows [] [] ids t.rows)
 
 -- rows of one resource id, or of one scope id, differ

@@ -8,9 +8,9 @@ use Rattle.otap_cells.specs.Tables.{Table}
 use Rattle.otap_attrs.specs.declared.refusal.RowRefusal.{RowRefusal}
 use Rattle.otap_attrs.specs.declared.refusal.RowRefusal.TheVariants as why
 use Rattle.otap_attrs.specs.Defects.{WrongValue}
-use Rattle.otap_checks.specs.declared.rules.Asks.{Asks}
-use Rattle.otap_checks.specs.declared.rules.Asks.TheVariants as asks
-use Rattle.otap_checks.specs.declared.rules.CellRule.{CellRule}
+use Rattle.otap_checks.specs.declared.signals.Asks.{Asks}
+use Rattle.otap_checks.specs.declared.signals.Asks.TheVariants as asks
+use Rattle.otap_checks.specs.declared.signals.CellRule.{CellRule}
 use Rattle.otap_checks.specs.IdDefects.{IdDefect}
 use Rattle.otap_checks.specs.Measured.{HasTwoValues, HasUnevenLists}
 use Rattle.otap_checks.specs.Reading.{Disagrees}

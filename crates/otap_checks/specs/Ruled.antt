@@ -10,9 +10,9 @@ use Rattle.otap_groups.specs.Rows.{id_at}
 use Rattle.otap_attrs.specs.declared.refusal.RowRefusal.{RowRefusal}
 use Rattle.otap_attrs.specs.Values.{HasValueAt}
 use Rattle.otap_checks.specs.declared.known.ColumnIds.{ColumnIds}
-use Rattle.otap_checks.specs.declared.rules.Asks.{Asks}
-use Rattle.otap_checks.specs.declared.rules.Asks.TheVariants as asks
-use Rattle.otap_checks.specs.declared.rules.CellRule.{CellRule}
+use Rattle.otap_checks.specs.declared.signals.Asks.{Asks}
+use Rattle.otap_checks.specs.declared.signals.Asks.TheVariants as asks
+use Rattle.otap_checks.specs.declared.signals.CellRule.{CellRule}
 use Rattle.otap_checks.specs.Given.{AreGiven}
 use Rattle.otap_checks.specs.Known.{Knows}
 use Rattle.otap_checks.specs.RowDefects.{Breaks}

@@ -3,13 +3,14 @@ use Rattle.std.specs.Prelude.{◌≡◌, ℕ, ◌<◌, ◌==◌, ◌||◌, Bool,
 use Rattle.otap_cells.specs.Cells.{nat_in}
 use Rattle.otap_cells.specs.GivenIds.{HasIds}
 use Rattle.otap_cells.specs.Tables.{Table, cell_in}
+use Rattle.otap_cells.specs.Places.{main_id, metric_type, part_parent}
 use Rattle.otap_groups.specs.Rows.{id_at}
 use Rattle.otap_checks.specs.declared.shapes.PointSort.{PointSort}
 use Rattle.otap_checks.specs.declared.shapes.PointSort.TheVariants as sort
 
 -- the number of a metric's shape, in a row of the main table
 abbrev pub type_at : Table → ℕ → ℕ
-type_at t row = nat_in (cell_in t.rows 9 row)
+type_at t row = nat_in (cell_in t.rows metric_type row)
 
 -- the numbers of shapes: none, gauges, sums, histograms, summaries
 abbrev pub is_type : ℕ → Bool
@@ -50,6 +51,6 @@ pub record NamesOther (fits : ℕ → Bool) (main : Table) (parents ids : List (
 pub record WrongParent (fits : ℕ → Bool) (t main : Table) : Type 0 where
   pub parents : List (Option ℕ)
   pub ids : List (Option ℕ)
-  pub are : HasIds t 1 parents
-  pub known : HasIds main 0 ids
+  pub are : HasIds t part_parent parents
+  pub known : HasIds main main_id ids
   pub is : NamesOther fits main parents ids

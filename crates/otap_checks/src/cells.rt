@@ -4,35 +4,37 @@ ghost use Rattle.otap_attrs.specs.declared.refusal.CheckRefusal.TheVariants as c
 ghost use Rattle.otap_cells.specs.Named.{table_named};
 ghost use Rattle.otap_groups.specs.Kinds.{IsMain};
 ghost use Rattle.otap_checks.specs.IdDefects.{IdDefect};
-ghost use Rattle.otap_checks.specs.Known.{Knows, KnowsAll};
+ghost use Rattle.otap_checks.specs.Known.{IsWeighed, Knows, KnowsAll};
 ghost use Rattle.otap_checks.specs.Reading.{Disagrees};
 ghost use Rattle.otap_checks.specs.Refusing.{IsClean, RefusesCheck};
 ghost use Rattle.otap_checks.specs.RowDefects.{RowDefect};
 ghost use Rattle.otap_checks.specs.Ruled.{AreGivenFor, BreaksOne, BreaksRule, FitsRule, Keeps};
 
-use crate::checking::known_ids;
+use crate::checking::known_rows;
 use crate::fronts::front_of;
-use crate::known::KnownIds;
+use crate::known::{KnownIds, KnownRows};
 use crate::measured::{has_two_values, has_uneven_lists};
-use crate::rules::{Asks, CellRule, rules_of};
 use crate::shapes::{has_other_parents, has_wrong_type};
-use crate::values::check_values;
+use crate::signals::{Asks, CellRule, rules_of};
+use crate::values::check_unweighed_values;
 use otap_attrs::{CheckRefusal, RowRefusal};
 use otap_cells::{Kind, Rows, TableSet};
 use otlp_model::Signal;
 use std::alloc::{AllocError, Global};
 
-/// The ids of the tables of a batch, where nothing is wrong with their rows. Takes n log n for n rows.
-pub fn checked_ids<R: Rows>(
+/// What is known of the rows of a batch with which nothing is wrong: their ids, and what pairs weigh where it was found. Takes n log n
+/// for n rows.
+pub fn checked_rows<R: Rows>(
     alloc: Global,
     set: &TableSet<R>,
     signal: Signal,
-) -> Result<KnownIds, CheckRefusal>
+) -> Result<KnownRows, CheckRefusal>
     ensures clean { OnOk result (IsClean (RowDefect signal set.now)) }
-    ensures known { IfOk result (λ known. KnowsAll signal set.now known) }
+    ensures known { IfOk result (λ known. KnowsAll signal set.now known.ids) }
+    ensures weights { IfOk result (λ known. All (IsWeighed set.now) known.weights.items) }
     ensures refused { IfErr result (RefusesCheck (RowDefect signal set.now)) }
 {
-    let known = known_ids(alloc, set, signal)?;
+    let known = known_rows(alloc, set, signal)?;
     check_cells(alloc, set, &known, signal)?;
     Ok(known)
 }
@@ -41,11 +43,12 @@ pub fn checked_ids<R: Rows>(
 pub fn check_cells<R: Rows>(
     alloc: Global,
     set: &TableSet<R>,
-    known: &KnownIds,
+    known: &KnownRows,
     signal: Signal,
 ) -> Result<(), CheckRefusal>
     requires ids { IsClean (IdDefect signal set.now) }
-    requires known { KnowsAll signal set.now known.now }
+    requires known { KnowsAll signal set.now known.now.ids }
+    requires weights { All (IsWeighed set.now) known.now.weights.items }
     ensures clean { OnOk result (IsClean (RowDefect signal set.now)) }
     ensures refused { IfErr result (RefusesCheck (RowDefect signal set.now)) }
 {
@@ -58,11 +61,12 @@ pub fn check_cells<R: Rows>(
 fn check_rules<R: Rows>(
     alloc: Global,
     set: &TableSet<R>,
-    known: &KnownIds,
+    known: &KnownRows,
     rules: &[CellRule],
 ) -> Result<(), CheckRefusal>
     requires fit { All FitsRule rules.now }
-    requires given { All (AreGivenFor set.now known.now) rules.now }
+    requires given { All (AreGivenFor set.now known.now.ids) rules.now }
+    requires weights { All (IsWeighed set.now) known.now.weights.items }
     ensures ok { OnOk result (All (Keeps set.now) rules.now) }
     ensures err { IfErr result (RefusesCheck (BreaksOne set.now rules.now)) }
 {
@@ -75,18 +79,23 @@ fn check_rules<R: Rows>(
 fn check_rule<R: Rows>(
     alloc: Global,
     set: &TableSet<R>,
-    known: &KnownIds,
+    known: &KnownRows,
     rule: &CellRule,
 ) -> Result<(), CheckRefusal>
     requires fit { FitsRule rule.now }
-    requires given { AreGivenFor set.now known.now rule.now }
+    requires given { AreGivenFor set.now known.now.ids rule.now }
+    requires weights { All (IsWeighed set.now) known.now.weights.items }
     ensures ok { OnOk result (Keeps set.now rule.now) }
     ensures err { IfErr result (RefusesCheck (BreaksRule set.now rule.now)) }
 {
     let kind = rule.kind;
     match rule.asks {
-        Asks::Values(column) => check_values(set, kind, column),
-        Asks::Agree => refuse(differ(alloc, set, known, kind)?, kind, RowRefusal::Disagree),
+        Asks::Values(column) => check_unweighed_values(set, known, kind, column),
+        Asks::Agree => refuse(
+            differ(alloc, set, &known.ids, kind)?,
+            kind,
+            RowRefusal::Disagree,
+        ),
         Asks::OneNumber(column) => {
             refuse(
                 has_two_values(set, kind, column),
@@ -103,7 +112,7 @@ fn check_rule<R: Rows>(
         }
         Asks::KnownShape => refuse(has_wrong_type(set, kind), kind, RowRefusal::BadKind),
         Asks::OfShape(sort) => {
-            let found = has_other_parents(alloc, set, known, kind, sort)?;
+            let found = has_other_parents(alloc, set, &known.ids, kind, sort)?;
             refuse(found, kind, RowRefusal::BadKind)
         }
     }

@@ -1,14 +1,14 @@
 //! What is wrong with the ids of a batch.
 ghost use Rattle.std.specs.Prelude.{◌≡◌, true, false, All, IfErr, IfOk, OnOk};
 ghost use Rattle.otap_attrs.specs.declared.refusal.RowRefusal.{RowRefusal};
-ghost use Rattle.otap_checks.specs.declared.links.TableLink.{TableLink};
+ghost use Rattle.otap_checks.specs.declared.signals.TableLink.{TableLink};
 ghost use Rattle.otap_checks.specs.IdDefects.{IdDefect};
 ghost use Rattle.otap_checks.specs.Inside.{IsLost, KnownFault, KnownFaults, KnownWrong, OwnTwice};
 ghost use Rattle.otap_checks.specs.Refusing.{IsClean, refused_as, RefusesCheck};
-ghost use Rattle.otap_checks.specs.Known.{KnowsAll};
+ghost use Rattle.otap_checks.specs.Known.{IsWeighed, KnowsAll};
 
-use crate::known::{KnownIds, read_tables};
-use crate::links::{TableLink, links_of};
+use crate::known::{KnownIds, KnownRows, read_tables};
+use crate::signals::{TableLink, links_of};
 use otap_attrs::{CheckRefusal, RowRefusal, has_orphan};
 use otap_cells::{IdFault, Kind, Rows, TableSet, has_twice};
 use otlp_model::Signal;
@@ -25,9 +25,26 @@ pub fn known_ids<R: Rows>(
     ensures known { IfOk result (λ known. KnowsAll signal set.now known) }
     ensures err { IfErr result (RefusesCheck (IdDefect signal set.now)) }
 {
+    let known = known_rows(alloc, set, signal)?;
+    Ok(known.ids)
+}
+
+/// The same ids, and what pairs weigh, of the tables of attributes for which it was found. Takes what `known_ids` takes, and time in
+/// proportion to the bytes of keys, texts and nested values.
+#[tactic(auto, using(crate::proofs::KnownTables::columns_refused))]
+pub fn known_rows<R: Rows>(
+    alloc: Global,
+    set: &TableSet<R>,
+    signal: Signal,
+) -> Result<KnownRows, CheckRefusal>
+    ensures clean { OnOk result (IsClean (IdDefect signal set.now)) }
+    ensures known { IfOk result (λ known. KnowsAll signal set.now known.ids) }
+    ensures weights { IfOk result (λ known. All (IsWeighed set.now) known.weights.items) }
+    ensures err { IfErr result (RefusesCheck (IdDefect signal set.now)) }
+{
     let links = links_of(signal);
     let known = read_tables(alloc, set, links)?;
-    match check_links(alloc, &known, links) {
+    match check_links(alloc, &known.ids, links) {
         Ok(()) => Ok(known),
         Err(refusal) => Err(refusal),
     }

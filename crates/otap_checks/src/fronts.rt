@@ -5,7 +5,7 @@ ghost use Rattle.otap_checks.specs.Known.{Knows};
 ghost use Rattle.otap_checks.specs.Reading.{main_rows_in};
 
 use crate::known::KnownIds;
-use otap_cells::Rows;
+use otap_cells::{Rows, shared_columns};
 use otap_groups::FrontColumns;
 
 /// The rows of a main table, with their ids.
@@ -18,8 +18,8 @@ pub fn front_of<'a, R: Rows>(rows: &'a R, known: &'a KnownIds) -> FrontColumns<'
     let kind = rows.kind();
     FrontColumns::new(
         rows,
-        known.of(kind, 0),
-        known.of(kind, 1),
-        known.of(kind, 4),
+        known.of(kind, shared_columns::main::ID),
+        known.of(kind, shared_columns::main::RESOURCE_ID),
+        known.of(kind, shared_columns::main::SCOPE_ID),
     )
 }

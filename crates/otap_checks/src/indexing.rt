@@ -8,7 +8,7 @@ ghost use Rattle.otap_checks.specs.Known.{Knows};
 ghost use Rattle.otap_checks.specs.Reading.{part_rows_in};
 
 use crate::known::KnownIds;
-use otap_cells::{Kind, Rows, TableSet};
+use otap_cells::{Kind, Rows, TableSet, shared_columns};
 use otap_groups::{Children, RowReader};
 use std::alloc::{AllocError, Global};
 
@@ -26,8 +26,8 @@ pub fn index_rows<'a, R: Rows, S: RowReader>(
     requires rows { S.cells reader ≡ map (drop 2) (table_named kind set.now).rows }
     ensures { IfOk result (Finds (children (S.item reader) (part_rows_in (table_named kind set.now)))) }
 {
-    let ids = known.of(kind, 0);
-    let parents = known.of(kind, 1);
+    let ids = known.of(kind, shared_columns::part::ID);
+    let parents = known.of(kind, shared_columns::part::PARENT_ID);
     let made = Children::new(alloc, reader, ids, parents)?;
     Ok(made)
 }

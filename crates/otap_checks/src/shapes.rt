@@ -10,11 +10,9 @@ ghost use Rattle.otap_checks.specs.Ruled.{FindsOther, HoldsId};
 ghost use Rattle.otap_checks.specs.Shapes.{NamesOther, WrongParent, WrongType, fits_of, is_type};
 
 use crate::known::KnownIds;
+use otap_cells::shared_columns::{main, metric, part};
 use otap_cells::{Kind, Rows, TableSet, number_in};
 use std::alloc::{AllocError, Global};
-
-/// The column of metrics that has the number of the shape.
-const TYPE: u32 = 9;
 
 /// Which points a table has: those of gauges and sums, of histograms, or of summaries.
 #[derive(Clone, Copy, Debug, PartialEq, Eq)]
@@ -59,7 +57,7 @@ fn any_wrong_type<R: Rows>(rows: &R) -> bool
     ensures no { result ≡ false → WrongType (R.table rows.now) → ⊥ }
 {
     'rows: for row in 0..rows.rows() {
-        if !is_type(number_in(rows, TYPE, row)) {
+        if !is_type(number_in(rows, metric::TYPE, row)) {
             return true;
         }
     }
@@ -89,8 +87,8 @@ pub fn has_other_parents<R: Rows>(
     let Some(rows) = set.get(Kind::Metrics) else {
         return Ok(false);
     };
-    let ids = known.of(Kind::Metrics, 0);
-    let parents = known.of(kind, 1);
+    let ids = known.of(Kind::Metrics, main::ID);
+    let parents = known.of(kind, part::PARENT_ID);
     let found = names_other(alloc, rows, ids, parents, sort)?;
     Ok(found)
 }
@@ -135,7 +133,7 @@ fn finds_other<R: Rows>(rows: &R, ids: &[Option<u32>], named: &[u32], sort: Poin
     ensures no { result ≡ false → FindsOther (fits_of sort) (R.table rows.now) ids.now named.now → ⊥ }
 {
     'rows: for row in 0..rows.rows() {
-        let other = !sort.fits(number_in(rows, TYPE, row));
+        let other = !sort.fits(number_in(rows, metric::TYPE, row));
         if other && holds_id(named, ids[row as usize]) {
             return true;
         }

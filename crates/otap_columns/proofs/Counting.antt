@@ -13,10 +13,10 @@ use Rattle.otap_cells.specs.Columns.{ColumnSpec, base_at, columns_of, width_of, 
 use Rattle.otap_cells.specs.Tables.{Table}
 use Rattle.otap_cells.specs.Weights.{row_weight_limit, weight_of_table}
 use Rattle.otap_columns.specs.Limits.{row_limit}
-use Rattle.otap_columns.specs.declared.writer.groups.Group as code
-use Rattle.otap_columns.specs.Groups.{Member, Group, Alone, Under, grouped}
+use Rattle.otap_cells.specs.declared.grouping.ColumnGroup as code
+use Rattle.otap_cells.specs.Groups.{Member, Group, Alone, Under, grouped}
 use Rattle.otap_columns.specs.BuiltCells.{HasRoom, row_most, column_weight, column_most, columns_most, group_parts, group_most}
-use Rattle.otap_columns.specs.WrittenGroups.{group_in}
+use Rattle.otap_cells.specs.StaticGroups.{group_in}
 use Rattle.otap_columns.proofs.Grouping.{spec_at, members_of, group_size}
 use Rattle.otap_columns.proofs.RowsAdded.{rows_light}
 use Rattle.lists.proofs.MadeSums.{sum_of_map, sum_of_both}
@@ -156,11 +156,11 @@ table_parts kind = leb-true (sum_by group_parts (grouped (columns_of kind))) 32 
 
 -- ---- the same for the groups of the code
 
-module _ (t : Table) (gs : List code.Group) (are : map group_in gs ≡ grouped (columns_of t.kind)) where
-  pub groups_parts : sum_by (λ (g : code.Group). group_parts (group_in g)) gs ≤ 32
+module _ (t : Table) (gs : List code.ColumnGroup) (are : map group_in gs ≡ grouped (columns_of t.kind)) where
+  pub groups_parts : sum_by (λ (g : code.ColumnGroup). group_parts (group_in g)) gs ≤ 32
   groups_parts = omega (arith, sum_of_map group_parts group_in gs, ap (sum_by group_parts) are, table_parts t.kind)
 
-  pub groups_bytes : sum_by (λ (g : code.Group). group_most t (group_in g)) gs ≤ row_limit * length t.rows + weight_of_table t + 1024
+  pub groups_bytes : sum_by (λ (g : code.ColumnGroup). group_most t (group_in g)) gs ≤ row_limit * length t.rows + weight_of_table t + 1024
   groups_bytes = omega (arith, sum_of_map (group_most t) group_in gs, ap (sum_by (group_most t)) are, table_most t)
 
 -- a batch without parts has room for all

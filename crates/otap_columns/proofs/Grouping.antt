@@ -17,7 +17,7 @@ use Rattle.otap_cells.specs.declared.profile.Base.TheVariants as base
 use Rattle.otap_cells.specs.Columns.{ColumnSpec, plain, place_of_path, columns_of, logs, spans, metrics, attrs, deep_attrs, span_events, span_links, number_points, summary_points, hist_points, exemplars}
 use Rattle.otap_columns.specs.declared.forms.ColumnForm.TheVariants as form
 use Rattle.otap_columns.specs.Known.{is_column}
-use Rattle.otap_columns.specs.Groups.{Member, Group, Alone, Under, grouped}
+use Rattle.otap_cells.specs.Groups.{Member, Group, Alone, Under, grouped}
 use Rattle.otap_columns.specs.Schemas.{arrow_type_in, item_in}
 
 -- ---- texts of which each byte is below 128

@@ -19,8 +19,8 @@ use Rattle.otap_cells.specs.Columns.{ColumnSpec, columns_of, column_at, width_of
 use Rattle.otap_columns.specs.declared.forms.ColumnForm.{ColumnForm}
 use Rattle.otap_columns.specs.declared.forms.ColumnForm.TheVariants as form
 use Rattle.otap_columns.specs.Known.{is_column}
-use Rattle.otap_columns.specs.Groups.{Member, Group, grouped}
-use Rattle.otap_columns.specs.Groups as group
+use Rattle.otap_cells.specs.Groups.{Member, Group, grouped}
+use Rattle.otap_cells.specs.Groups as group
 use Rattle.otap_columns.specs.Schemas.{Forms, is_present, fits_form, FormsFit, id_type, arrow_type_in, item_in, dict_for, leaf_in, members_there, branches_under, branches_in, branches_for, schema_for}
 use Rattle.otap_columns.proofs.Finding.{place_below}
 use Rattle.otap_columns.proofs.Grouping.{under_tests, ascii_text, is_ascii, is_member, is_group, group_name, member_size, group_size, may_be_dictionary, kinds_grouped}

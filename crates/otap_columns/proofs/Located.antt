@@ -31,8 +31,8 @@ use Rattle.otap_dicts.proofs.Places.{found_from}
 use Rattle.otap_columns.specs.declared.forms.ColumnForm.{ColumnForm}
 use Rattle.otap_columns.specs.declared.forms.ColumnForm.TheVariants as form
 use Rattle.otap_columns.specs.Known.{is_allowed, is_column, known_column, known_columns, place_in, place_at, elements_at, stores, fits_encoding, fits_as, fits_column, fits_at, columns_fit}
-use Rattle.otap_columns.specs.Groups.{Member, Group, grouped}
-use Rattle.otap_columns.specs.Groups as group
+use Rattle.otap_cells.specs.Groups.{Member, Group, grouped}
+use Rattle.otap_cells.specs.Groups as group
 use Rattle.otap_columns.specs.Schemas.{Forms, is_present, fits_form, FormsFit, id_type, arrow_type_in, item_in, dict_for, encoding_of, encoding_for, members_there, schema_for, ArraySlot, Struct, Column, Items, items_after, slots_of_member}
 use Rattle.otap_columns.specs.Schemas.{slots_under, slots_in, slots_for, item_type, slot_field, slot_column, IsArraySlot, IsFound}
 use Rattle.otap_columns.proofs.Finding.{PassesAt, passes_at, known_column-below}

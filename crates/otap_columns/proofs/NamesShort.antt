@@ -14,8 +14,8 @@ use Rattle.otap_cells.specs.declared.profile.Coding.TheVariants as coding
 use Rattle.otap_cells.specs.Columns.{ColumnSpec, columns_of, column_at, logs, spans, metrics, attrs, deep_attrs, span_events, span_links, number_points, summary_points, hist_points, exemplars}
 use Rattle.otap_columns.specs.declared.forms.ColumnForm.{ColumnForm}
 use Rattle.otap_columns.specs.declared.forms.ColumnForm.TheVariants as form
-use Rattle.otap_columns.specs.Groups.{Member, Group, grouped}
-use Rattle.otap_columns.specs.Groups as group
+use Rattle.otap_cells.specs.Groups.{Member, Group, grouped}
+use Rattle.otap_cells.specs.Groups as group
 use Rattle.otap_columns.specs.Schemas.{Forms, is_present, encoding_for, item_in, leaf_in, members_there, branches_under, branches_in, branches_for, schema_for}
 
 -- ---- how long the names of a group are at most

@@ -28,7 +28,7 @@ use Rattle.otap_columns.specs.Plain.{HoldsPlain, plain_forms, plain_schema}
 use Rattle.otap_columns.specs.PlainInside.{ArePlain}
 use Rattle.otap_columns.specs.WrittenBatches.{WritesRows}
 use Rattle.otap_columns.specs.WrittenCells.{FitsIndexes}
-use Rattle.otap_columns.specs.WrittenGroups.{forms_in}
+use Rattle.otap_columns.specs.FormsIn.{forms_in}
 use Rattle.otap_columns.specs.WrittenPayloads.{HoldsRows}
 use Rattle.otap_columns.specs.WrittenRows.{HasValues}
 use Rattle.otap_columns.specs.Writers.{AreSeen}

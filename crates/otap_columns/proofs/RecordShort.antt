@@ -14,7 +14,7 @@ use Rattle.otap_cells.specs.Columns.{ColumnSpec, column_at, columns_of, width_of
 use Rattle.otap_cells.specs.Tables.{Table}
 use Rattle.otap_columns.specs.declared.forms.ColumnForm.{ColumnForm}
 use Rattle.otap_columns.specs.declared.forms.ColumnForm.TheVariants as form
-use Rattle.otap_columns.specs.Groups.{grouped}
+use Rattle.otap_cells.specs.Groups.{grouped}
 use Rattle.otap_columns.specs.Limits.{dictionary_columns, record_limit, head_limit, schema_most}
 use Rattle.otap_columns.specs.Schemas.{Forms, FormsFit, fits_form, schema_for}
 use Rattle.otap_columns.specs.BuiltCells.{rows_most}

@@ -22,8 +22,8 @@ use Rattle.otap_cells.specs.Columns.{ColumnSpec, columns_of, column_at, width_of
 use Rattle.otap_columns.specs.declared.forms.ColumnForm.{ColumnForm}
 use Rattle.otap_columns.specs.declared.forms.ColumnForm.TheVariants as form
 use Rattle.otap_columns.specs.Known.{place_at}
-use Rattle.otap_columns.specs.Groups.{Member, Group, grouped}
-use Rattle.otap_columns.specs.Groups as group
+use Rattle.otap_cells.specs.Groups.{Member, Group, grouped}
+use Rattle.otap_cells.specs.Groups as group
 use Rattle.otap_columns.specs.Schemas.{Forms, is_present, fits_form, FormsFit, arrow_type_in, item_in, dict_for, encoding_of, encoding_for, leaf_in, members_there, branches_under, branches_in, branches_for, schema_for, IsFound}
 use Rattle.otap_columns.proofs.Grouping.{under_tests, is_member, is_group, kinds_grouped}
 use Rattle.otap_columns.proofs.Keeping.{member_below}

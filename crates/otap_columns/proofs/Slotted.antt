@@ -22,8 +22,8 @@ use Rattle.arrow_arrays.proofs.PathsWalked.{paths_in_is}
 use Rattle.otap_cells.specs.declared.payload.Kind.{Kind}
 use Rattle.otap_cells.specs.Columns.{columns_of, column_at, place_of_path}
 use Rattle.otap_columns.specs.Known.{is_column}
-use Rattle.otap_columns.specs.Groups.{Member, Group, grouped}
-use Rattle.otap_columns.specs.Groups as group
+use Rattle.otap_cells.specs.Groups.{Member, Group, grouped}
+use Rattle.otap_cells.specs.Groups as group
 use Rattle.otap_columns.specs.Schemas.{Forms, is_present, item_in, leaf_in, members_there, branches_under, branches_in, branches_for, schema_for, ArraySlot, Struct, Column, Items, items_after}
 use Rattle.otap_columns.specs.Schemas.{slots_of_member, slots_under, slots_in, slots_for, item_type, slot_field, slot_column, is_items}
 use Rattle.otap_columns.proofs.Grouping.{under_tests, is_ascii, is_member, is_group, kinds_grouped}

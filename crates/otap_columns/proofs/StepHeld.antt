@@ -22,7 +22,7 @@ use Rattle.otap_columns.specs.BuiltCells.{FitsForm}
 use Rattle.otap_columns.specs.Seen.{SeenIn}
 use Rattle.otap_columns.specs.SeenInside.{filled_up, form_kept, id_form_kept, is_absent, places_of_cells}
 use Rattle.otap_columns.specs.WrittenCells.{FitsIndexes, place_among}
-use Rattle.otap_columns.specs.WrittenGroups.{forms_in}
+use Rattle.otap_columns.specs.FormsIn.{forms_in}
 use Rattle.otap_columns.specs.WrittenRecords.{CanSendColumn}
 use Rattle.otap_columns.specs.WrittenRows.{HasValues, IsKnownIn, unseen as unseen_column}
 use Rattle.otap_columns.specs.BuiltRows.{CanWrite, columns_in}

@@ -22,7 +22,7 @@ use Rattle.otap_columns.specs.declared.forms.ColumnForm.{ColumnForm}
 use Rattle.otap_columns.specs.declared.forms.ColumnForm.TheVariants as form
 use Rattle.otap_columns.specs.declared.writer.cells.CellBytes.{CellBytes}
 use Rattle.otap_columns.specs.declared.writer.cells.CellBytes.TheVariants as bytes
-use Rattle.otap_columns.specs.Groups.{Member, Group, Alone, Under}
+use Rattle.otap_cells.specs.Groups.{Member, Group, Alone, Under}
 use Rattle.otap_columns.specs.Observed.{id_width}
 
 -- an id that fits a form

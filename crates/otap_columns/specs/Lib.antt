@@ -3,7 +3,6 @@ pub mod Streams
 pub mod Faults
 pub mod Dictionaries
 pub mod Known
-pub mod Groups
 pub mod Schemas
 pub mod Parts
 pub mod Substreams
@@ -15,7 +14,7 @@ pub mod Seen
 pub mod NarrowIds
 pub mod WrittenCells
 pub mod WrittenBatches
-pub mod WrittenGroups
+pub mod FormsIn
 pub mod WrittenRows
 pub mod WrittenRecords
 pub mod Writers

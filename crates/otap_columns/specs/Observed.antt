@@ -6,7 +6,6 @@ use Rattle.std.specs.List.{flat_map, list_any}
 use Rattle.byteorder.specs.Endian.{little_bytes}
 use Rattle.arrow_buffers.specs.Columns.{bit_byte}
 use Rattle.otap_cells.specs.declared.payload.Kind.{Kind}
-use Rattle.otap_cells.specs.declared.payload.Kind.TheVariants as table
 use Rattle.otap_cells.specs.declared.profile.Base.{Base}
 use Rattle.otap_cells.specs.declared.profile.Base.TheVariants as base
 use Rattle.otap_cells.specs.Cells.{Cell, null, number, bits, flag, bytes}
@@ -14,6 +13,7 @@ use Rattle.otap_cells.specs.Columns.{column_at, name_at, base_at, coding_at, is_
 use Rattle.otap_cells.specs.ColumnIds.{stored_in}
 use Rattle.otap_cells.specs.Continuing.{continues_in}
 use Rattle.otap_cells.specs.Ids.{undone}
+use Rattle.otap_cells.specs.Payload.{is_main}
 use Rattle.otap_cells.specs.Tables.{Table, column_in, greatest_wide, greatest_narrow}
 use Rattle.otap_dicts.specs.declared.form.Form.{Form}
 use Rattle.otap_dicts.specs.declared.form.Form.TheVariants as ladder
@@ -63,12 +63,6 @@ unfoldable pub values_in_tables : Kind → List Table → ℕ → List (List ℕ
 values_in_tables kind tables column = flat_map (bytes_of_values kind column) tables
 
 -- ---- ids
-
-abbrev pub is_main : Kind → Bool
-is_main table.Metrics = true
-is_main table.Logs = true
-is_main table.Spans = true
-is_main other = false
 
 -- the ids of the rows of a main table, which are always written
 abbrev pub is_own_id : Kind → ℕ → Bool

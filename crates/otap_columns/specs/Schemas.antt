@@ -20,8 +20,8 @@ use Rattle.otap_cells.specs.Bases.{is_id}
 use Rattle.otap_cells.specs.Columns.{ColumnSpec, columns_of, column_at, width_of, allows}
 use Rattle.otap_columns.specs.declared.forms.ColumnForm.{ColumnForm}
 use Rattle.otap_columns.specs.declared.forms.ColumnForm.TheVariants as form
-use Rattle.otap_columns.specs.Groups.{Member, Group, grouped}
-use Rattle.otap_columns.specs.Groups as group
+use Rattle.otap_cells.specs.Groups.{Member, Group, grouped}
+use Rattle.otap_cells.specs.Groups as group
 use Rattle.otap_columns.specs.Known.{place_at, known_column}
 
 -- ---- forms

@@ -7,7 +7,7 @@ use Rattle.otap_cells.specs.Tables.{Table}
 use Rattle.otap_columns.specs.declared.forms.ColumnForm.{ColumnForm}
 use Rattle.otap_columns.specs.Seen.{SeenIn}
 use Rattle.otap_columns.specs.SeenInside.{SeesTable, form_kept}
-use Rattle.otap_columns.specs.WrittenGroups.{forms_in}
+use Rattle.otap_columns.specs.FormsIn.{forms_in}
 use Rattle.otap_columns.specs.WrittenRows.{unseen}
 use Rattle.otap_columns.specs.BuiltRows.{columns_in}
 use Rattle.otap_columns.specs.Writers.{AreSeen, AreWritable, is_started}

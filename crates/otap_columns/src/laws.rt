@@ -1,19 +1,19 @@
 //! What the definitions say of one another. The functions do nothing: their contracts are the laws.
 
-ghost use Rattle.std.specs.Prelude.{◌≡◌, ◌+◌, ◌<◌, ◌++◌, ◌∷◌, [], true, false, if◌then◌else◌, ℕ, ℤ, List, length, slice_get, None, Some};
+ghost use Rattle.std.specs.Prelude.{◌≡◌, ◌+◌, ◌<◌, ◌≤◌, ◌++◌, ◌∷◌, [], true, false, if◌then◌else◌, ℕ, ℤ, List, length, slice_get, None, Some};
 ghost use Rattle.arrow_ipc.specs.declared.messages.IpcMessage.{IpcMessage};
 ghost use Rattle.arrow_ipc.specs.Fronts.{front_of};
 ghost use Rattle.otap_cells.specs.declared.payload.Kind.{Kind};
 ghost use Rattle.otap_columns.specs.declared.refusal.ColumnRefusal.{ColumnRefusal};
 ghost use Rattle.otap_columns.specs.declared.reader.dictionary.TheConstants.{HELD_UNIT, MAX_VALUES};
 ghost use Rattle.otap_columns.specs.declared.reader.ends.TheConstants.{MAX_KEPT};
-ghost use Rattle.otap_columns.specs.declared.reader.view.TheConstants.{MAX_COLUMNS};
+ghost use Rattle.otap_columns.specs.declared.reader.view.TheConstants.{COLUMN_ROOM};
 ghost use Rattle.otap_cells.specs.Limits.{column_limit};
 ghost use Rattle.otap_columns.specs.Limits.{dictionary_limit, held_unit, kept_limit};
 ghost use Rattle.otap_columns.specs.Records.{IsRead, Stands, CanGoOn, IsJudged};
 ghost use Rattle.otap_columns.specs.Schemas.{Forms, is_present, FormsFit, item_in, schema_for, slots_for, IsArraySlot, IsFound};
 ghost use Rattle.otap_columns.specs.Schemas.{Column, Items};
-ghost use Rattle.otap_columns.specs.Groups.{Member};
+ghost use Rattle.otap_cells.specs.Groups.{Member};
 ghost use Rattle.otap_columns.specs.Known.{known_column, place_at, columns_fit};
 ghost use Rattle.otap_cells.specs.Columns.{column_at, has_dot, is_id_at, name_at, width_of};
 ghost use Rattle.otap_cells.specs.Tables.{Table, coding_in};
@@ -36,12 +36,12 @@ pub fn read_or_refused()
 {}
 
 /// The constants are the limits: how many values a dictionary that is read has at most, how many bytes these have together, what is
-/// held of a value beside its bytes, and how many columns a table has at most.
+/// held of a value beside its bytes. A view has room for as many columns as a table may have.
 pub fn values_are_limited()
     ensures count { MAX_VALUES ≡ dictionary_limit }
     ensures bytes { MAX_KEPT ≡ kept_limit }
     ensures unit { HELD_UNIT ≡ held_unit }
-    ensures columns { MAX_COLUMNS ≡ column_limit }
+    ensures columns { column_limit ≤ COLUMN_ROOM }
 {}
 
 /// A payload changes only the sub-stream of its own type: it opens another one, or its messages come after the open one's.

@@ -1,26 +1,32 @@
 -- The request that rows make: an item for each main row, in groups that are longest runs of rows whose cells of
 -- `resource`, and of `scope` and `schema_url`, are equal.
-use Rattle.std.specs.Prelude.{ℕ, List, [], ◌∷◌, Option, map}
+use Rattle.std.specs.Prelude.{ℕ, List, [], ◌∷◌, Option, codes, map}
 use Rattle.otlp_model.specs.declared.value.Pair.{Pair}
 use Rattle.otlp_model.specs.declared.groups.Resource.{Resource}
 use Rattle.otlp_model.specs.declared.groups.Scope.{Scope}
 use Rattle.otlp_model.specs.declared.groups.ScopeGroup.{ScopeGroup}
 use Rattle.otlp_model.specs.declared.groups.ResourceGroup.{ResourceGroup}
-use Rattle.otap_cells.specs.Cells.{Cell, null, bytes_in, nat_in, cell_at}
+use Rattle.otap_cells.specs.ByName.{cell_of}
+use Rattle.otap_cells.specs.Cells.{Cell, null, bytes_in, nat_in}
+use Rattle.otap_cells.specs.Columns.{own_resources, own_scopes}
 use Rattle.otap_groups.specs.Rows.{MainRow, same_resource, same_scope}
 use Rattle.otap_groups.specs.Runs.{runs}
 
 -- the resource that cells of `resource` and pairs make; null reads as the default
 abbrev pub resource_of : List Cell → List Pair → Resource
-resource_of cells pairs = record { schema_url = bytes_in (cell_at cells 0); dropped = nat_in (cell_at cells 1); pairs = pairs }
+resource_of cells pairs = record {
+  schema_url = bytes_in (cell_of own_resources (codes "resource.schema_url") cells);
+  dropped = nat_in (cell_of own_resources (codes "resource.dropped_attributes_count") cells);
+  pairs = pairs;
+}
 
 -- the scope that cells of `scope`, the schema url beside it and pairs make
 abbrev pub scope_of : List Cell → Cell → List Pair → Scope
 scope_of cells url pairs = record {
   schema_url = bytes_in url;
-  name = bytes_in (cell_at cells 0);
-  version = bytes_in (cell_at cells 1);
-  dropped = nat_in (cell_at cells 2);
+  name = bytes_in (cell_of own_scopes (codes "scope.name") cells);
+  version = bytes_in (cell_of own_scopes (codes "scope.version") cells);
+  dropped = nat_in (cell_of own_scopes (codes "scope.dropped_attributes_count") cells);
   pairs = pairs;
 }
 

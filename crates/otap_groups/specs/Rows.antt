@@ -1,9 +1,12 @@
 -- The rows of a batch, with their ids as they are.
-use Rattle.std.specs.Prelude.{ℕ, Bool, true, false, ◌==◌, ◌&&◌, bytes_eq, List, [], ◌∷◌, Option, None, Some, length, map, drop}
+use Rattle.std.specs.Prelude.{ℕ, Bool, true, false, ◌==◌, ◌&&◌, bytes_eq, List, [], ◌∷◌, Option, None, Some, codes, length, map, drop}
 use Rattle.std.specs.List.{slice_index_or, range_with_len}
 use Rattle.std.specs.Ordering.{int_eq}
 use Rattle.lists.specs.Flags.{same_flag}
-use Rattle.otap_cells.specs.Cells.{Cell, null, number, bits, flag, bytes, cell_at}
+use Rattle.otap_cells.specs.ByName.{cell_of}
+use Rattle.otap_cells.specs.Cells.{Cell, null, number, bits, flag, bytes}
+use Rattle.otap_cells.specs.Columns.{common}
+use Rattle.otap_cells.specs.Places.{first_of_item}
 
 -- a row of a main table; `own` are the cells of its item
 pub record MainRow : Type 0 where
@@ -28,11 +31,16 @@ abbrev pub main_row : Option ℕ → Option ℕ → Option ℕ → List Cell →
 main_row id resource_id scope_id row = record {
   id = id;
   resource_id = resource_id;
-  resource = cell_at row 2 ∷ cell_at row 3 ∷ [];
+  resource =
+      cell_of common (codes "resource.schema_url") row
+      ∷ cell_of common (codes "resource.dropped_attributes_count") row ∷ [];
   scope_id = scope_id;
-  scope = cell_at row 5 ∷ cell_at row 6 ∷ cell_at row 7 ∷ [];
-  schema_url = cell_at row 8;
-  own = drop 9 row;
+  scope =
+      cell_of common (codes "scope.name") row
+      ∷ cell_of common (codes "scope.version") row
+      ∷ cell_of common (codes "scope.dropped_attributes_count") row ∷ [];
+  schema_url = cell_of common (codes "schema_url") row;
+  own = drop first_of_item row;
 }
 
 -- an id of a list, none past its end

@@ -10,6 +10,7 @@ use Rattle.otap_cells.specs.Ids.{base_of}
 use Rattle.otap_cells.specs.Continuing.{again_of, goes_on_after}
 use Rattle.otap_cells.specs.GivenIds.{HasIds}
 use Rattle.otap_cells.specs.Tables.{Table, profile_table}
+use Rattle.otap_cells.specs.Places.{attribute_parent, first_of_pair, first_of_part, main_id, part_id, part_parent, resource_id, scope_id}
 use Rattle.otap_groups.specs.Rows.{MainRow, ChildRow, main_rows, child_rows}
 use Rattle.otap_groups.specs.Flat.{FlatIn, PlacedIn, flat_items, placed, resource_cells, scope_cells}
 
@@ -20,24 +21,24 @@ pub record IsMainRows (t : Table) (rows : List MainRow) : Type 0 where
   pub ids : List (Option ℕ)
   pub resource_ids : List (Option ℕ)
   pub scope_ids : List (Option ℕ)
-  pub own : HasIds t 0 ids
-  pub resource : HasIds t 1 resource_ids
-  pub scope : HasIds t 4 scope_ids
+  pub own : HasIds t main_id ids
+  pub resource : HasIds t resource_id resource_ids
+  pub scope : HasIds t scope_id scope_ids
   pub are : rows ≡ main_rows ids resource_ids scope_ids t.rows
 
 -- the same of a table whose first two columns are its own ids and its parents
 pub record IsPartRows (t : Table) (rows : List ChildRow) : Type 0 where
   pub ids : List (Option ℕ)
   pub parents : List (Option ℕ)
-  pub own : HasIds t 0 ids
-  pub above : HasIds t 1 parents
-  pub are : rows ≡ child_rows ids parents (map (drop 2) t.rows)
+  pub own : HasIds t part_id ids
+  pub above : HasIds t part_parent parents
+  pub are : rows ≡ child_rows ids parents (map (drop first_of_part) t.rows)
 
 -- the same of a table whose first column is its parents, and which has no ids
 pub record IsPairRows (t : Table) (rows : List ChildRow) : Type 0 where
   pub parents : List (Option ℕ)
-  pub above : HasIds t 0 parents
-  pub are : rows ≡ child_rows [] parents (map (drop 1) t.rows)
+  pub above : HasIds t attribute_parent parents
+  pub are : rows ≡ child_rows [] parents (map (drop first_of_pair) t.rows)
 
 -- ---- writing
 
@@ -71,7 +72,7 @@ stored_parts how test cells_of step parent before (p ∷ ps) =
 
 -- THE TABLE of the parts of these parents, one list for each parent; parents are stored as the kind says
 unfoldable pub part_table : {C : Type 0} → Kind → (C → List Cell) → List (List C) → Table
-part_table kind cells_of lists = profile_table kind (stored_parts (coding_at kind 1) (again_of kind) cells_of 0 0 None (placed lists))
+part_table kind cells_of lists = profile_table kind (stored_parts (coding_at kind part_parent) (again_of kind) cells_of 0 0 None (placed lists))
 
 -- ids that don't fall from item to item, and parents that don't fall from part to part
 abbrev pub Rising : {I : Type 0} → ℕ → ℕ → List (FlatIn I) → Type 0

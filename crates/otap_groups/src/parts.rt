@@ -13,7 +13,7 @@ ghost use Rattle.otap_groups.specs.Stored.{RisingParts, id_cell, stored_parts};
 ghost use Rattle.otap_groups.specs.Views.{seen_placed};
 
 use crate::flat::Placed;
-use otap_cells::{Coding, Kind, LogicalTable, coding_of};
+use otap_cells::{Coding, Kind, LogicalTable, coding_of, shared_columns};
 use std::alloc::{AllocError, Global};
 
 /// The parts of parents.
@@ -108,7 +108,7 @@ pub fn write_parts<W: PartWriter>(
     ensures { IfOk result (λ table. table ≡ profile_table (W.kind writer.now) (stored_parts (coding_at (W.kind writer.now) 1) (again_of (W.kind writer.now)) W.cells_of 0 0 None (map seen_placed parts.now))) }
 {
     let kind = writer.kind();
-    let coding = coding_of(kind, 1);
+    let coding = coding_of(kind, shared_columns::part::PARENT_ID);
     let mut table = LogicalTable::new(alloc, kind);
     let mut step = 0;
     let mut parent = 0;

@@ -21,7 +21,7 @@ use Rattle.otap_cells.proofs.KindNamed.{kind_named}
 use Rattle.otap_groups.specs.Rows.{MainRow, child_row_at, child_rows, main_row_at, main_rows}
 use Rattle.otap_attrs.specs.declared.refusal.RowRefusal.TheVariants as why
 use Rattle.otap_attrs.proofs.TablePairs.{ids_long}
-use Rattle.otap_checks.specs.declared.links.TableLink.{TableLink}
+use Rattle.otap_checks.specs.declared.signals.TableLink.{TableLink}
 use Rattle.otap_checks.specs.IdDefects.{Duplicate, DuplicateOf}
 use Rattle.otap_checks.specs.Links.{links_of}
 use Rattle.otap_checks.specs.Reading.{main_rows_in, part_rows_in}

@@ -116,9 +116,10 @@ module _ (all : List Table) (kind of : Kind) (at : ℕ) (ids : List (Option ℕ)
 
     no_orphans : OrphanOf all attributes (Some (record { column = 0; of = of; at = at })) → ⊥
     no_orphans orphan =
-        let same : orphan.parents ≡ have.parents = one_given attributes 0 orphan.parents have.parents orphan.are have.are in
-        orphan.orphan.missing (covers orphan.ids orphan.known orphan.orphan.parent
-        (have.from (λ n. n < length ids) (all_below ids rows) orphan.orphan.parent (subst (λ ps. Contains ps (Some orphan.orphan.parent)) same orphan.orphan.named)))
+        let lost = orphan.lost in
+        let same : lost.parents ≡ have.parents = one_given attributes 0 lost.parents have.parents lost.are have.are in
+        lost.orphan.missing (covers orphan.ids orphan.known lost.orphan.parent
+        (have.from (λ n. n < length ids) (all_below ids rows) lost.orphan.parent (subst (λ ps. Contains ps (Some lost.orphan.parent)) same lost.orphan.named)))
 
     pub fine_attributes : (wrong : RowRefusal) → WrongIn all attributes (attributes_link kind of at) wrong → ⊥
     fine_attributes = nothing_wrong all attributes (attributes_link kind of at) attributes_given (λ is. is) no_orphans
@@ -158,9 +159,10 @@ module _ (all : List Table) (kind of : Kind) (at : ℕ) (ids : List (Option ℕ)
     no_lost_parts : OrphanOf all parted (Some (record { column = 1; of = of; at = at })) → ⊥
     no_lost_parts orphan =
         let named : List (Option ℕ) = map (λ (row : ChildRow). row.parent) (part_rows numbered own_cells 0 ps) in
-        let same : orphan.parents ≡ named = one_given parted 1 orphan.parents named orphan.are part_above in
-        orphan.orphan.missing (covers orphan.ids orphan.known orphan.orphan.parent
-        (parents_from (λ n. n < length ids) 0 ps (parts_below ids rows) orphan.orphan.parent (subst (λ ps. Contains ps (Some orphan.orphan.parent)) same orphan.orphan.named)))
+        let lost = orphan.lost in
+        let same : lost.parents ≡ named = one_given parted 1 lost.parents named lost.are part_above in
+        lost.orphan.missing (covers orphan.ids orphan.known lost.orphan.parent
+        (parents_from (λ n. n < length ids) 0 ps (parts_below ids rows) lost.orphan.parent (subst (λ ps. Contains ps (Some lost.orphan.parent)) same lost.orphan.named)))
 
     pub fine_parts : (wrong : RowRefusal) → WrongIn all parted (parts kind of at) wrong → ⊥
     fine_parts = nothing_wrong all parted (parts kind of at) parts_given (own_once parted (Some 0) 0 (running 0 ps) refl part_own (running_once 0 ps)) no_lost_parts

@@ -24,7 +24,7 @@ use Rattle.otap_groups.proofs.RunningIds.{running, running_once, running_there}
 use Rattle.otap_attrs.specs.declared.refusal.RowRefusal.{RowRefusal}
 use Rattle.otap_attrs.specs.Index.{attribute_rows_in}
 use Rattle.otap_attrs.specs.Tables.{apart, missing}
-use Rattle.otap_checks.specs.declared.links.TableLink.{TableLink}
+use Rattle.otap_checks.specs.declared.signals.TableLink.{TableLink}
 use Rattle.otap_checks.specs.Given.{AreGiven, IsGiven}
 use Rattle.otap_checks.specs.IdDefects.{IdDefect, WrongIn}
 use Rattle.otap_checks.specs.Links.{attributes_link, items, links_of, parts}

@@ -16,8 +16,8 @@ use Rattle.otap_cells.specs.Tables.{Table}
 use Rattle.otap_groups.specs.Rows.{MainRow}
 use Rattle.otap_attrs.specs.declared.refusal.RowRefusal.{RowRefusal}
 use Rattle.otap_attrs.specs.declared.refusal.RowRefusal.TheVariants as why
-use Rattle.otap_checks.specs.declared.rules.Asks.TheVariants as asks
-use Rattle.otap_checks.specs.declared.rules.CellRule.{CellRule}
+use Rattle.otap_checks.specs.declared.signals.Asks.TheVariants as asks
+use Rattle.otap_checks.specs.declared.signals.CellRule.{CellRule}
 use Rattle.otap_checks.specs.declared.shapes.PointSort.{PointSort}
 use Rattle.otap_checks.specs.Links.{items, links_of}
 use Rattle.otap_checks.specs.Reading.{Disagrees}

@@ -16,7 +16,7 @@ use Rattle.otap_groups.specs.Rows.{MainRow}
 use Rattle.otap_groups.proofs.RunningIds.{running}
 use Rattle.otap_attrs.specs.declared.refusal.RowRefusal.{RowRefusal}
 use Rattle.otap_attrs.proofs.TablePairs.{ids_long}
-use Rattle.otap_checks.specs.declared.rules.Asks.TheVariants as asks
+use Rattle.otap_checks.specs.declared.signals.Asks.TheVariants as asks
 use Rattle.otap_checks.specs.declared.shapes.PointSort.{PointSort}
 use Rattle.otap_checks.specs.declared.shapes.PointSort.TheVariants as sort
 use Rattle.otap_checks.specs.Links.{links_of, parts}

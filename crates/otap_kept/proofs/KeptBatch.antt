@@ -12,7 +12,7 @@ use Rattle.otap_cells.specs.Tables.{Table}
 use Rattle.otap_groups.specs.Kinds.{IsMain}
 use Rattle.otap_attrs.specs.Tables.{beside_kind, where_rows}
 use Rattle.otap_checks.specs.declared.known.ColumnIds.{ColumnIds}
-use Rattle.otap_checks.specs.declared.links.TableLink.{TableLink}
+use Rattle.otap_checks.specs.declared.signals.TableLink.{TableLink}
 use Rattle.otap_checks.specs.Known.{Knows, KnowsAll}
 use Rattle.otap_checks.specs.Links.{links_of}
 use Rattle.otap_kept.specs.declared.whose.Whose.{Whose}

@@ -16,7 +16,7 @@ use Rattle.otap_attrs.specs.Index.{attribute_rows_in}
 use Rattle.otap_attrs.specs.Tables.{apart, beside_kind, missing}
 use Rattle.otap_attrs.proofs.FilledTables.{filled_set, filled_tables, numbers}
 use Rattle.otap_checks.specs.declared.known.ColumnIds.{ColumnIds}
-use Rattle.otap_checks.specs.declared.links.TableLink.{TableLink}
+use Rattle.otap_checks.specs.declared.signals.TableLink.{TableLink}
 use Rattle.otap_checks.specs.Known.{Knows, KnowsAll, ids_named}
 use Rattle.otap_checks.specs.Links.{items, links_of}
 use Rattle.otap_checks.specs.Reading.{part_rows_in}

@@ -11,7 +11,7 @@ use Rattle.otap_cells.specs.Tables.{Table, profile_table}
 use Rattle.otap_groups.specs.Rows.{MainRow}
 use Rattle.otap_attrs.specs.Tables.{apart}
 use Rattle.otap_attrs.proofs.FilledTables.{Formed, filled_named, numbers}
-use Rattle.otap_checks.specs.declared.links.TableLink.{TableLink}
+use Rattle.otap_checks.specs.declared.signals.TableLink.{TableLink}
 use Rattle.otap_checks.specs.Links.{links_of}
 use Rattle.otap_kept.specs.Kept.{KeptIds, kept_below, kept_of, known_after, links_below, main_ids, parent_ids, table_below, tables_below}
 use Rattle.otap_kept.specs.Rows.{renewed}

@@ -13,7 +13,7 @@ use Rattle.otap_cells.specs.Tables.{Table}
 use Rattle.otap_groups.specs.Rows.{MainRow}
 use Rattle.otap_attrs.specs.Tables.{apart, missing}
 use Rattle.otap_attrs.proofs.FilledTables.{Tells, kinds_filled}
-use Rattle.otap_checks.specs.declared.links.TableLink.{TableLink}
+use Rattle.otap_checks.specs.declared.signals.TableLink.{TableLink}
 use Rattle.otap_checks.specs.Links.{links_of}
 use Rattle.otap_checks.specs.Reading.{main_rows_in}
 use Rattle.otap_checks.proofs.AllWritten.{kinds_listed}

@@ -20,7 +20,7 @@ use Rattle.otap_groups.specs.Rows.{ChildRow, child_row_at, child_rows}
 use Rattle.otap_groups.proofs.AlikeLaws.{alike_children}
 use Rattle.otap_groups.proofs.LightGroups.{children_weigh}
 use Rattle.otap_attrs.specs.Index.{attribute_rows_in, pairs_in}
-use Rattle.otap_checks.specs.declared.links.TableLink.{TableLink}
+use Rattle.otap_checks.specs.declared.signals.TableLink.{TableLink}
 use Rattle.otap_checks.specs.Links.{links_of}
 use Rattle.otap_checks.specs.Reading.{part_rows_in}
 use Rattle.otap_kept.specs.Clean.{AreCleanAndLight}

@@ -20,7 +20,7 @@ use Rattle.otap_groups.specs.Rows.{MainRow, main_row, main_row_at, main_rows}
 use Rattle.otap_groups.specs.Weighing.{cells_weight}
 use Rattle.otap_attrs.specs.Tables.{apart, missing}
 use Rattle.otap_attrs.proofs.FilledTables.{filled, filled_weigh}
-use Rattle.otap_checks.specs.declared.links.TableLink.{TableLink}
+use Rattle.otap_checks.specs.declared.signals.TableLink.{TableLink}
 use Rattle.otap_checks.specs.Links.{links_of}
 use Rattle.otap_checks.specs.Reading.{main_rows_in}
 use Rattle.otap_kept.specs.declared.whose.Whose.{Whose}

@@ -17,7 +17,7 @@ use Rattle.otap_cells.specs.Payload.{main_of}
 use Rattle.otap_cells.specs.Tables.{Table}
 use Rattle.otap_groups.specs.Rows.{MainRow, id_at, main_rows}
 use Rattle.otap_attrs.specs.Index.{pairs_in}
-use Rattle.otap_checks.specs.declared.links.TableLink.{TableLink}
+use Rattle.otap_checks.specs.declared.signals.TableLink.{TableLink}
 use Rattle.otap_checks.specs.Links.{attributes_link, links_of}
 use Rattle.otap_checks.specs.Reading.{main_rows_in}
 use Rattle.otap_checks.specs.Rules.{pairs, rules_of}

@@ -21,7 +21,7 @@ use Rattle.otap_attrs.specs.Index.{attribute_rows_in}
 use Rattle.otap_attrs.specs.Tables.{apart, missing}
 use Rattle.otap_attrs.proofs.FilledTables.{filled, filled_all}
 use Rattle.otap_attrs.proofs.TablePairs.{attribute_id}
-use Rattle.otap_checks.specs.declared.links.TableLink.{TableLink}
+use Rattle.otap_checks.specs.declared.signals.TableLink.{TableLink}
 use Rattle.otap_checks.specs.Given.{AreGiven}
 use Rattle.otap_checks.specs.Links.{links_of}
 use Rattle.otap_checks.specs.Reading.{part_rows_in}

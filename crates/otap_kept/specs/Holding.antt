@@ -1,19 +1,20 @@
 -- Words of private contracts: which ids have a pair whose value is a text.
-use Rattle.std.specs.Prelude.{◌≡◌, ◌==◌, ◌&&◌, ℕ, suc, Bool, true, false, if◌then◌else◌, drop, List, [], ◌∷◌, Option, None, Some}
+use Rattle.std.specs.Prelude.{◌≡◌, ◌==◌, ◌&&◌, ℕ, suc, Bool, true, false, if◌then◌else◌, drop, List, [], ◌∷◌, Option, None, Some, codes, option_map}
 use Rattle.std.specs.List.{list_any}
 use Rattle.std.specs.List.Sorted.{IsNonDecreasingBy}
 use Rattle.std.specs.Str.{bytes_eq}
 use Rattle.otlp_model.specs.declared.request.Signal.{Signal}
-use Rattle.otlp_model.specs.declared.request.Signal.TheVariants as signal
 use Rattle.otlp_model.specs.declared.value.Pair.{Pair}
 use Rattle.otap_cells.specs.declared.payload.Kind.{Kind}
 use Rattle.otap_cells.specs.declared.payload.Kind.TheVariants as table
 use Rattle.otap_cells.specs.Cells.{Cell}
+use Rattle.otap_cells.specs.Columns.{common, place_in}
 use Rattle.otap_cells.specs.Continuing.{attribute_in}
 use Rattle.otap_cells.specs.GivenIds.{ids_in}
 use Rattle.otap_cells.specs.Tables.{Table}
 use Rattle.otap_groups.specs.Rows.{MainRow, main_row_at}
 use Rattle.otap_attrs.specs.Index.{pairs_in}
+use Rattle.otap_checks.specs.Links.{item_attributes}
 use Rattle.otap_kept.specs.declared.text_pair.TextPair.{TextPair}
 use Rattle.otap_kept.specs.declared.whose.Whose.{Whose}
 use Rattle.otap_kept.specs.declared.whose.Whose.TheVariants as whose
@@ -48,10 +49,8 @@ pub record AreHolders (pair : Pair) (t : Table) (holders : List ℕ) : Type 0 wh
 
 -- the kind of the attributes that are looked at, and the column of the main table that has the ids of their owners
 abbrev pub looked_at : Signal → Whose → Option (Kind × ℕ)
-looked_at of whose.Resource = Some (table.ResourceAttrs, 1)
-looked_at signal.Logs whose.Item = Some (table.LogAttrs, 0)
-looked_at signal.Traces whose.Item = Some (table.SpanAttrs, 0)
-looked_at signal.Metrics whose.Item = None
+looked_at of whose.Resource = Some (table.ResourceAttrs, place_in common (codes "resource.id"))
+looked_at of whose.Item = option_map (λ kind. (kind, place_in common (codes "id"))) (item_attributes of)
 
 -- the indexes of those ids that are among numbers; the first of all ids has the index n
 abbrev pub places_among : List ℕ → ℕ → List (Option ℕ) → List ℕ

@@ -1,5 +1,5 @@
 -- WHAT A FILTER KEEPS of the tables of a batch: the main rows that have a pair, and what is below these.
-use Rattle.std.specs.Prelude.{ℕ, ◌==◌, ◌&&◌, Bool, if◌then◌else◌, filter, List, [], ◌∷◌, Option, None, Some}
+use Rattle.std.specs.Prelude.{ℕ, ◌==◌, ◌&&◌, Bool, if◌then◌else◌, filter, List, [], ◌∷◌, Option, None, Some, codes}
 use Rattle.std.specs.List.{flat_map, list_any}
 use Rattle.otlp_model.specs.declared.request.Signal.{Signal}
 use Rattle.otlp_model.specs.declared.request.Signal.TheVariants as signal
@@ -7,6 +7,7 @@ use Rattle.otlp_model.specs.declared.value.Pair.{Pair}
 use Rattle.otlp_model.specs.Equal.{pair_is}
 use Rattle.otap_cells.specs.declared.payload.Kind.{Kind}
 use Rattle.otap_cells.specs.declared.payload.Kind.TheVariants as table
+use Rattle.otap_cells.specs.Columns.{common, place_in}
 use Rattle.otap_cells.specs.Continuing.{has_attributes}
 use Rattle.otap_cells.specs.Named.{table_named}
 use Rattle.otap_cells.specs.Payload.{is_kind, main_of}
@@ -14,8 +15,8 @@ use Rattle.otap_cells.specs.Tables.{Table}
 use Rattle.otap_groups.specs.Rows.{MainRow}
 use Rattle.otap_attrs.specs.Index.{attribute_rows_in, pairs_in}
 use Rattle.otap_attrs.specs.Tables.{where_rows}
-use Rattle.otap_checks.specs.declared.links.TableLink.{TableLink}
-use Rattle.otap_checks.specs.declared.links.Parents.{Parents}
+use Rattle.otap_checks.specs.declared.signals.TableLink.{TableLink}
+use Rattle.otap_checks.specs.declared.signals.Parents.{Parents}
 use Rattle.otap_checks.specs.Links.{links_of}
 use Rattle.otap_checks.specs.Reading.{main_rows_in, part_rows_in}
 use Rattle.otap_kept.specs.declared.whose.Whose.{Whose}
@@ -84,9 +85,9 @@ kept_below tables known (link ∷ links) =
 -- the ids of main rows: their own, and each of their resources and scopes once
 abbrev pub main_ids : Kind → List MainRow → List KeptIds
 main_ids main rows =
-    record { kind = main; column = 0; ids = own_ids rows }
-    ∷ record { kind = main; column = 1; ids = first_ids (resource_ids rows) }
-    ∷ record { kind = main; column = 4; ids = first_ids (scope_ids rows) }
+    record { kind = main; column = place_in common (codes "id"); ids = own_ids rows }
+    ∷ record { kind = main; column = place_in common (codes "resource.id"); ids = first_ids (resource_ids rows) }
+    ∷ record { kind = main; column = place_in common (codes "scope.id"); ids = first_ids (scope_ids rows) }
     ∷ []
 
 -- the links of a signal below that of its main table

@@ -1,8 +1,10 @@
 -- Words of private contracts: rows that are written with other ids.
-use Rattle.std.specs.Prelude.{◌≡◌, ℕ, suc, Bool, ◌&&◌, true, List, [], ◌∷◌, Option, None, Some, drop, map}
+use Rattle.std.specs.Prelude.{◌≡◌, ℕ, suc, Bool, ◌&&◌, true, List, [], ◌∷◌, Option, None, Some, codes, drop, map}
 use Rattle.std.specs.List.{slice_index_or}
 use Rattle.otap_cells.specs.declared.payload.Kind.{Kind}
-use Rattle.otap_cells.specs.Cells.{Cell, cell_at, seen}
+use Rattle.otap_cells.specs.ByName.{cell_of, cells_from}
+use Rattle.otap_cells.specs.Cells.{Cell, seen}
+use Rattle.otap_cells.specs.Columns.{common, place_in}
 use Rattle.otap_cells.specs.Continuing.{has_attributes}
 use Rattle.otap_groups.specs.declared.entry.ChildEntry.{ChildEntry}
 use Rattle.otap_groups.specs.Flat.{PlacedIn, placed_at}
@@ -10,7 +12,7 @@ use Rattle.otap_groups.specs.Kinds.{IsPart}
 use Rattle.otap_groups.specs.Rows.{ChildRow, MainRow, child_row, id_at, main_row}
 use Rattle.otap_groups.specs.Stored.{id_cell}
 use Rattle.otap_checks.specs.declared.known.ColumnIds.{ColumnIds}
-use Rattle.otap_checks.specs.declared.links.TableLink.{TableLink}
+use Rattle.otap_checks.specs.declared.signals.TableLink.{TableLink}
 use Rattle.otap_checks.specs.Known.{ids_named}
 use Rattle.otap_kept.specs.declared.main_table.FrontIds.{FrontIds}
 use Rattle.otap_kept.specs.Kept.{KeptIds}
@@ -45,7 +47,12 @@ mains_from resources scopes rows n (place ∷ places) =
 -- a main row with these cells for its three ids
 abbrev pub main_cells : FrontIds → List Cell → List Cell
 main_cells ids row =
-    seen ids.own ∷ seen ids.resource ∷ cell_at row 2 ∷ cell_at row 3 ∷ seen ids.scope ∷ drop 5 row
+    seen ids.own
+    ∷ seen ids.resource
+    ∷ cell_of common (codes "resource.schema_url") row
+    ∷ cell_of common (codes "resource.dropped_attributes_count") row
+    ∷ seen ids.scope
+    ∷ cells_from common (codes "scope.name") row
 
 -- the ids of a column
 abbrev pub seen_ids : ColumnIds → KeptIds
@@ -57,14 +64,20 @@ ids_kept main read places column = map (id_at (ids_named main column read)) plac
 
 -- whether the new numbers of these rows rise: those of their resources, and of their scopes
 abbrev pub places_rise : Kind → List ColumnIds → List ℕ → Bool
-places_rise main read places = numbers_rise (ids_kept main read places 1) && numbers_rise (ids_kept main read places 4)
+places_rise main read places =
+    numbers_rise (ids_kept main read places (place_in common (codes "resource.id")))
+    && numbers_rise (ids_kept main read places (place_in common (codes "scope.id")))
+
+-- of a column, what these ids become
+abbrev pub column_kept : (List (Option ℕ) → List (Option ℕ)) → Kind → List ColumnIds → List ℕ → ℕ → KeptIds
+column_kept become main read places column = record { kind = main; column = column; ids = become (ids_kept main read places column) }
 
 -- the ids of these rows: their own, and each of their resources and scopes once
 abbrev pub main_ids_kept : Kind → List ColumnIds → List ℕ → List KeptIds
 main_ids_kept main read places =
-    record { kind = main; column = 0; ids = ids_kept main read places 0 }
-    ∷ record { kind = main; column = 1; ids = first_ids (ids_kept main read places 1) }
-    ∷ record { kind = main; column = 4; ids = first_ids (ids_kept main read places 4) }
+    column_kept (λ ids. ids) main read places (place_in common (codes "id"))
+    ∷ column_kept first_ids main read places (place_in common (codes "resource.id"))
+    ∷ column_kept first_ids main read places (place_in common (codes "scope.id"))
     ∷ []
 
 -- a table below others: attributes have no ids of their own, and parts have

@@ -14,7 +14,7 @@ ghost use Rattle.otap_kept.specs.Writing.{with_numbers};
 use crate::copying::{add_cells, id_cell};
 use crate::numbering::new_numbers;
 use otap_attrs::code_parents;
-use otap_cells::{CellView, Kind, LogicalTable, Rows, TableSet};
+use otap_cells::{CellView, Kind, LogicalTable, Rows, TableSet, shared_columns};
 use otap_checks::KnownIds;
 use std::alloc::{AllocError, Global};
 
@@ -33,7 +33,11 @@ pub(crate) fn attributes_below<R: Rows>(
     let Some(rows) = set.get(kind) else {
         return Ok(LogicalTable::new(alloc, kind));
     };
-    let numbers = new_numbers(alloc, kept, read.of(kind, 0))?;
+    let numbers = new_numbers(
+        alloc,
+        kept,
+        read.of(kind, shared_columns::attribute::PARENT_ID),
+    )?;
     let mut table = numbered_rows(alloc, rows, &numbers)?;
     code_parents(alloc, &mut table)?;
     Ok(table)
@@ -79,7 +83,7 @@ fn push_numbered<'a, R: Rows>(
     let _count = rows.rows();
     cells.clear();
     cells.push(id_cell(number))?;
-    add_cells(cells, rows, 1, row)?;
+    add_cells(cells, rows, shared_columns::attribute::KEY, row)?;
     table.push_cells(cells)?;
     Ok(())
 }

@@ -3,7 +3,7 @@ ghost use Rattle.std.specs.Prelude.{◌≡◌, ◌++◌, ◌∷◌, All, map, If
 ghost use Rattle.std.specs.List.{flat_map};
 ghost use Rattle.otap_cells.specs.Named.{table_named};
 ghost use Rattle.otap_attrs.specs.Tables.{beside_kind, where_rows};
-ghost use Rattle.otap_checks.specs.declared.links.TableLink.{TableLink};
+ghost use Rattle.otap_checks.specs.declared.signals.TableLink.{TableLink};
 ghost use Rattle.otap_checks.specs.Known.{Knows};
 ghost use Rattle.otap_kept.specs.Kept.{kept_below, known_after, parent_ids, table_below};
 ghost use Rattle.otap_kept.specs.Writing.{IsBelow, seen_ids};
@@ -11,7 +11,7 @@ ghost use Rattle.otap_kept.specs.Writing.{IsBelow, seen_ids};
 use crate::attributes::attributes_below;
 use crate::parts::parts_below;
 use otap_attrs::push_filled;
-use otap_cells::{Kind, LogicalTable, Rows, TableSet};
+use otap_cells::{Kind, LogicalTable, Rows, TableSet, shared_columns};
 use otap_checks::{ColumnIds, KnownIds, Parents, TableLink};
 use std::alloc::{AllocError, Global};
 
@@ -79,7 +79,7 @@ fn know(kept: &mut KnownIds, kind: Kind, ids: Vec<Option<u32>>) -> Result<(), Al
     ensures { OnOk result (map seen_ids kept.new
         ≡ record { kind = kind; column = 0; ids = ids.items } ∷ map seen_ids kept.old) }
 {
-    let column = 0;
+    let column = shared_columns::part::ID;
     kept.columns.insert(0, ColumnIds { kind, column, ids })?;
     Ok(())
 }

@@ -9,7 +9,7 @@ ghost use Rattle.otap_kept.specs.Holding.{AreHolders, parents_saying, says};
 ghost use Rattle.otap_kept.specs.Texts.{text_pair};
 
 use crate::text_pair::TextPair;
-use otap_cells::{Kind, Rows, TableSet, attribute_at};
+use otap_cells::{Kind, Rows, TableSet, attribute_at, shared_columns};
 use otap_checks::KnownIds;
 use std::alloc::{AllocError, Global};
 
@@ -29,7 +29,7 @@ pub(crate) fn holders<R: Rows>(
     let Some(rows) = set.get(kind) else {
         return Ok(Vec::new(alloc));
     };
-    let parents = read.of(kind, 0);
+    let parents = read.of(kind, shared_columns::attribute::PARENT_ID);
     let mut found = parents_saying(alloc, rows, parents, pair)?;
     found.sort()?;
     Ok(found)

@@ -15,7 +15,7 @@ use crate::first_ids::first_ids;
 use crate::main_table::write_main;
 use crate::numbering::new_numbers;
 use crate::places::ids_at;
-use otap_cells::{Kind, LogicalTable, Rows, TableSet};
+use otap_cells::{Kind, LogicalTable, Rows, TableSet, shared_columns};
 use otap_checks::{ColumnIds, KnownIds};
 use std::alloc::{AllocError, Global};
 
@@ -31,17 +31,25 @@ pub(crate) fn main_ids(
     ensures ordered { IfOk result (λ found. IfSome found (λ ids. places_rise main read.now places.now ≡ true)) }
     ensures unordered { IfOk result (λ found. IfNone found (places_rise main read.now places.now ≡ false)) }
 {
-    let own = ids_at(alloc, read.of(main, 0), places)?;
-    let Some(resources) = first_of_column(alloc, main, read, 1, places)? else {
+    let own = ids_at(alloc, read.of(main, shared_columns::main::ID), places)?;
+    let Some(resources) = first_of_column(
+        alloc,
+        main,
+        read,
+        shared_columns::main::RESOURCE_ID,
+        places,
+    )?
+    else {
         return Ok(None);
     };
-    let Some(scopes) = first_of_column(alloc, main, read, 4, places)? else {
+    let Some(scopes) = first_of_column(alloc, main, read, shared_columns::main::SCOPE_ID, places)?
+    else {
         return Ok(None);
     };
     let mut columns = Vec::with_capacity(alloc, 3)?;
-    columns.push(column_ids(main, 0, own))?;
-    columns.push(column_ids(main, 1, resources))?;
-    columns.push(column_ids(main, 4, scopes))?;
+    columns.push(column_ids(main, shared_columns::main::ID, own))?;
+    columns.push(column_ids(main, shared_columns::main::RESOURCE_ID, resources))?;
+    columns.push(column_ids(main, shared_columns::main::SCOPE_ID, scopes))?;
     Ok(Some(KnownIds { columns }))
 }
 
@@ -83,8 +91,22 @@ pub(crate) fn main_table<R: Rows>(
     requires kept { map seen_ids kept.now ≡ main_ids_kept main read.now places.now }
     ensures { IfOk result (λ table. table ≡ kept_main main (renewed (map (main_row_in (table_named main set.now)) places.now))) }
 {
-    let resources = numbers_of(alloc, main, read, places, kept, 1)?;
-    let scopes = numbers_of(alloc, main, read, places, kept, 4)?;
+    let resources = numbers_of(
+        alloc,
+        main,
+        read,
+        places,
+        kept,
+        shared_columns::main::RESOURCE_ID,
+    )?;
+    let scopes = numbers_of(
+        alloc,
+        main,
+        read,
+        places,
+        kept,
+        shared_columns::main::SCOPE_ID,
+    )?;
     let Some(rows) = set.get(main) else {
         return Ok(LogicalTable::new(alloc, main));
     };

@@ -12,8 +12,8 @@ ghost use Rattle.otap_kept.specs.Texts.{text_pair};
 use crate::holders::holders;
 use crate::text_pair::TextPair;
 use crate::whose::Whose;
-use otap_cells::{Kind, Rows, TableSet, main_of};
-use otap_checks::KnownIds;
+use otap_cells::{Kind, Rows, TableSet, main_of, shared_columns};
+use otap_checks::{KnownIds, item_attributes};
 use otlp_model::Signal;
 use std::alloc::{AllocError, Global};
 
@@ -45,11 +45,12 @@ pub(crate) fn kept_rows<R: Rows>(
 fn looked_at(signal: Signal, whose: Whose) -> Option<(Kind, u32)>
     ensures { result ≡ looked_at signal whose }
 {
-    match (signal, whose) {
-        (_, Whose::Resource) => Some((Kind::ResourceAttrs, 1)),
-        (Signal::Logs, Whose::Item) => Some((Kind::LogAttrs, 0)),
-        (Signal::Traces, Whose::Item) => Some((Kind::SpanAttrs, 0)),
-        (Signal::Metrics, Whose::Item) => None,
+    match whose {
+        Whose::Resource => Some((Kind::ResourceAttrs, shared_columns::main::RESOURCE_ID)),
+        Whose::Item => match item_attributes(signal) {
+            Some(kind) => Some((kind, shared_columns::main::ID)),
+            None => None,
+        },
     }
 }
 

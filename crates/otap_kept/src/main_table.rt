@@ -9,7 +9,7 @@ ghost use Rattle.otap_kept.specs.Tables.{distance, kept_main, past_id};
 ghost use Rattle.otap_kept.specs.Writing.{main_cells, mains_from};
 
 use crate::copying::{add_cells, id_cell};
-use otap_cells::{CellView, LogicalTable, Rows};
+use otap_cells::{CellView, LogicalTable, Rows, shared_columns};
 use std::alloc::{AllocError, Global};
 
 /// The cells for the ids of a main row.
@@ -100,10 +100,10 @@ fn push_row<'a, R: Rows>(
     cells.clear();
     cells.push(ids.own)?;
     cells.push(ids.resource)?;
-    cells.push(rows.cell(2, row))?;
-    cells.push(rows.cell(3, row))?;
+    cells.push(rows.cell(shared_columns::main::RESOURCE_URL, row))?;
+    cells.push(rows.cell(shared_columns::main::RESOURCE_DROPPED, row))?;
     cells.push(ids.scope)?;
-    add_cells(cells, rows, 5, row)?;
+    add_cells(cells, rows, shared_columns::main::SCOPE_NAME, row)?;
     table.push_cells(cells)?;
     Ok(())
 }

@@ -16,7 +16,9 @@ ghost use Rattle.otap_kept.specs.Writing.{part_at};
 use crate::copying::{add_cells, id_cell};
 use crate::numbering::{new_numbers, rows_by_number};
 use crate::places::ids_of;
-use otap_cells::{CellView, Coding, Kind, LogicalTable, Rows, TableSet, bytes_in, coding_of};
+use otap_cells::{
+    CellView, Coding, Kind, LogicalTable, Rows, TableSet, bytes_in, coding_of, shared_columns,
+};
 use otap_checks::KnownIds;
 use otap_groups::ChildEntry;
 use std::alloc::{AllocError, Global};
@@ -41,9 +43,9 @@ pub(crate) fn parts_below<R: Rows>(
     ensures table { IfOk result (λ made. made.table ≡ kept_parts kind (parts_under kept.now (part_rows_in (table_named kind set.now)))) }
     ensures ids { IfOk result (λ made. made.ids.items ≡ former_ids (parts_under kept.now (part_rows_in (table_named kind set.now)))) }
 {
-    let numbers = new_numbers(alloc, kept, read.of(kind, 1))?;
+    let numbers = new_numbers(alloc, kept, read.of(kind, shared_columns::part::PARENT_ID))?;
     let entries = rows_by_number(alloc, &numbers)?;
-    let ids = ids_of(alloc, read.of(kind, 0), &entries)?;
+    let ids = ids_of(alloc, read.of(kind, shared_columns::part::ID), &entries)?;
     let table = table_at(alloc, set, kind, &entries)?;
     Ok(PartsKept { table, ids })
 }
@@ -76,7 +78,7 @@ fn write_parts<R: Rows>(
     ensures { IfOk result (λ table. table ≡ kept_parts (R.table rows.now).kind (map (part_at (R.table rows.now).rows) entries.now)) }
 {
     let kind = rows.kind();
-    let coding = coding_of(kind, 1);
+    let coding = coding_of(kind, shared_columns::part::PARENT_ID);
     let mut table = LogicalTable::for_rows(alloc, kind, entries.len());
     let mut cells = Vec::new(alloc);
     let mut step = 0;
@@ -108,8 +110,14 @@ fn goes_on<R: Rows>(rows: &R, before: Option<u64>, row: u64) -> bool
         return false;
     };
     match rows.kind() {
-        Kind::SpanEvents => bytes_in(rows, 3, before) == bytes_in(rows, 3, row),
-        Kind::SpanLinks => bytes_in(rows, 2, before) == bytes_in(rows, 2, row),
+        Kind::SpanEvents => {
+            bytes_in(rows, shared_columns::event::NAME, before)
+                == bytes_in(rows, shared_columns::event::NAME, row)
+        },
+        Kind::SpanLinks => {
+            bytes_in(rows, shared_columns::link::TRACE_ID, before)
+                == bytes_in(rows, shared_columns::link::TRACE_ID, row)
+        },
         _ => false,
     }
 }
@@ -145,7 +153,7 @@ fn push_part<'a, R: Rows>(
     cells.clear();
     cells.push(id_cell(id))?;
     cells.push(id_cell(parent))?;
-    add_cells(cells, rows, 2, row)?;
+    add_cells(cells, rows, shared_columns::part::OWN, row)?;
     table.push_cells(cells)?;
     Ok(())
 }

@@ -6,4 +6,4 @@ use Rattle.otap_attrs.specs.Values.{HasValueAt}
 
 pub has_body : HasValueAt table.Logs 15
 unfolding logs
-has_body = record { bases = refl }
+has_body = record { names = refl; bases = refl }

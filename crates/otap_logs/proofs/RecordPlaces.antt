@@ -48,7 +48,8 @@ record_read log rows row pairs inside
       event_name = (is_name ∙ ap bytes_in (sym (own_cell rows row 15 within))) i;
     }
 
-capped : (a b c d e f n x y : ℕ) → e ≡ min x (2 ^ 63) → f ≡ min y (2 ^ 63) → n ≡ min (sum (a ∷ b ∷ c ∷ d ∷ e ∷ f ∷ [])) (2 ^ 63)
+capped : (a b c d e f n x y : ℕ) → e ≡ min x (2 ^ 63) → f ≡ min y (2 ^ 63)
+    → n ≡ min (sum (0 ∷ 0 ∷ b ∷ c ∷ 0 ∷ a ∷ e ∷ 0 ∷ 0 ∷ d ∷ f ∷ [])) (2 ^ 63)
     → n ≡ min (a + b + c + d + x + y) (2 ^ 63)
 capped a b c d e f n x y of_e of_f of_n = omega arith
 
@@ -58,7 +59,7 @@ pub record_weighs : (rows : List (List Cell)) (row : ℕ) (pairs : List Pair) (t
     → text ≡ bytes_in (cell_in rows 14 row) → trace ≡ bytes_in (cell_in rows 11 row) → span ≡ bytes_in (cell_in rows 12 row) → name ≡ bytes_in (cell_in rows 24 row)
     → body ≡ min (weight_of_value (value_in (drop 15 (get_or rows row [])))) (2 ^ 63)
     → ((pair : Pair) → weigh pair ≡ weight_of_pair pair) → below ≡ min (total 32 weigh pairs) (2 ^ 63)
-    → total_weight ≡ min (sum (length text ∷ length trace ∷ length span ∷ length name ∷ body ∷ below ∷ [])) (2 ^ 63)
+    → total_weight ≡ min (sum (0 ∷ 0 ∷ length trace ∷ length span ∷ 0 ∷ length text ∷ body ∷ 0 ∷ 0 ∷ length name ∷ below ∷ [])) (2 ^ 63)
     → total_weight ≡ min (weight_of_log_record (record_of (own_cells rows row) pairs)) (2 ^ 63)
 unfolding record_of
 record_weighs rows row pairs text trace span name body below total_weight weigh inside is_text is_trace is_span is_name is_body same is_below is_total =

@@ -76,11 +76,13 @@ record_weighs_its_cells log =
     let s5 = sum_by-cons cell_weight (text_cell log.severity_text) rest in
     omega (arith, split, a, b, c, d, e, f, g, h, j, s0, s1, s2, s3, s4, s5)
 
-capped : (a b c e n body x : ℕ) → body ≡ min x (2 ^ 63) → n ≡ min (sum (a ∷ b ∷ c ∷ body ∷ e ∷ [])) (2 ^ 63) → n ≡ min (a + b + c + x + e) (2 ^ 63)
+capped : (a b c e n body x : ℕ) → body ≡ min x (2 ^ 63)
+    → n ≡ min (sum (0 ∷ 0 ∷ a ∷ b ∷ 0 ∷ c ∷ body ∷ 0 ∷ 0 ∷ e ∷ [])) (2 ^ 63) → n ≡ min (a + b + c + x + e) (2 ^ 63)
 capped a b c e n body x of_body of_n = omega arith
 
 pub own_weight : (log : LogRecord) (a b c e n body : ℕ) → a ≡ length log.trace_id → b ≡ length log.span_id → c ≡ length log.severity_text
-    → body ≡ min (cells_weight (value_cells log.body)) (2 ^ 63) → e ≡ length log.event_name → n ≡ min (sum (a ∷ b ∷ c ∷ body ∷ e ∷ [])) (2 ^ 63)
+    → body ≡ min (cells_weight (value_cells log.body)) (2 ^ 63) → e ≡ length log.event_name
+    → n ≡ min (sum (0 ∷ 0 ∷ a ∷ b ∷ 0 ∷ c ∷ body ∷ 0 ∷ 0 ∷ e ∷ [])) (2 ^ 63)
     → n ≡ min (cells_weight (record_cells log)) (2 ^ 63)
 own_weight log a b c e n body is_a is_b is_c is_body is_e is_n =
     capped a b c e n body (cells_weight (value_cells log.body)) is_body is_n

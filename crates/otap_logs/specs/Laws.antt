@@ -16,7 +16,7 @@ use Rattle.otap_cells.specs.Tables.{Table}
 use Rattle.otap_logs.specs.Requests.{regrouped_logs}
 use Rattle.otap_logs.specs.Tables.{tables_of_logs}
 
--- the law holds for all logs that telemetry can be, and that the profile has, within the weight limit
+-- the law holds for all logs that a program can hold, that the profile has, and that are within the weight limit
 abbrev pub ForProfileLogs : (List (ResourceGroup LogRecord) → Type 0) → Type 0
 ForProfileLogs Law = (groups : List (ResourceGroup LogRecord)) → IsReal (Logs groups) → IsProfile (Logs groups) → weight_of (Logs groups) ≤ weight_limit
     → Law groups

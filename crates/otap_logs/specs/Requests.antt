@@ -12,6 +12,7 @@ use Rattle.otap_cells.specs.Named.{table_named}
 use Rattle.otap_cells.specs.Tables.{Table}
 use Rattle.otap_attrs.specs.declared.refusal.RowRefusal.{RowRefusal}
 use Rattle.otap_attrs.specs.Index.{pairs_in}
+use Rattle.otap_checks.specs.Refusing.{IsClean}
 use Rattle.otap_checks.specs.Regrouping.{regrouped_in}
 use Rattle.otap_checks.specs.RowDefects.{RowDefect}
 use Rattle.otap_logs.specs.Records.{record_of}
@@ -32,6 +33,6 @@ regrouped_weight tables = weight_of (Logs (regrouped_logs tables))
 abbrev pub WrongLogs : List Table → Kind → RowRefusal → Type 0
 WrongLogs tables kind wrong = RowDefect signal.Logs tables kind wrong
 
--- nothing is wrong with the rows of any of the tables
+-- nothing is wrong with the rows of any table of log records or below them; other tables aren't looked at
 abbrev pub AreCleanLogs : List Table → Type 0
-AreCleanLogs tables = (kind : Kind) (why : RowRefusal) → WrongLogs tables kind why → ⊥
+AreCleanLogs tables = IsClean (WrongLogs tables)

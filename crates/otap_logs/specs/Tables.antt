@@ -4,6 +4,7 @@ use Rattle.otlp_model.specs.declared.groups.ResourceGroup.{ResourceGroup}
 use Rattle.otlp_model.specs.declared.logs.LogRecord.{LogRecord}
 use Rattle.otlp_model.specs.declared.value.Pair.{Pair}
 use Rattle.otap_cells.specs.declared.payload.Kind.TheVariants as table
+use Rattle.otap_cells.specs.Places.{main_id, resource_id, scope_id}
 use Rattle.otap_cells.specs.Tables.{Table}
 use Rattle.otap_groups.specs.Flat.{items_of, resource_pairs, scope_pairs}
 use Rattle.otap_checks.specs.Written.{Written, pairs_below, tables_written}
@@ -16,9 +17,9 @@ record_pairs groups = map (λ log. log.pairs) (items_of groups)
 -- below the records: the attributes of resources, scopes and records
 abbrev pub below_logs : List (ResourceGroup LogRecord) → List Written
 below_logs groups =
-    pairs_below table.ResourceAttrs table.Logs 1 (resource_pairs groups)
-    ∷ pairs_below table.ScopeAttrs table.Logs 4 (scope_pairs groups)
-    ∷ pairs_below table.LogAttrs table.Logs 0 (record_pairs groups)
+    pairs_below table.ResourceAttrs table.Logs resource_id (resource_pairs groups)
+    ∷ pairs_below table.ScopeAttrs table.Logs scope_id (scope_pairs groups)
+    ∷ pairs_below table.LogAttrs table.Logs main_id (record_pairs groups)
     ∷ []
 
 -- THE TABLES of a request: its records, and of the tables below them those that have rows

@@ -10,8 +10,11 @@ ghost use Rattle.otap_logs.specs.Laws.{AreInKindOrder, ForProfileLogs, HasRowPer
 ghost use Rattle.otap_logs.specs.Requests.{AreCleanLogs};
 ghost use Rattle.otap_logs.specs.Tables.{tables_of_logs};
 
-/// Law: the request that the tables of a request make means the same telemetry. Groups without items aren't in it, and the
-/// attributes may come in another order.
+/// Law: the request that the tables of a request make means the same telemetry: the same items in the same order, each with its
+/// resource and its scope, and with the same attributes in any order. How items are grouped isn't compared.
+///
+/// This law and those below whose clause begins with `ForProfile` are on requests that a program can hold, of the profile, and
+/// within the weight limit.
 pub fn tables_tell_the_same()
     ensures { ForProfileLogs (λ groups. Same (Logs groups) (Logs (rebuilt_logs groups))) }
 {}
@@ -37,7 +40,8 @@ pub fn each_record_has_a_row()
     ensures { (groups : List (ResourceGroup LogRecord)) → HasRowPerLog (tables_of_logs groups) groups }
 {}
 
-/// Law: the request that the tables of a request make weighs no more than the request.
-pub fn tables_are_light()
+/// Law: the request that the tables of a request make weighs no more than the request. The tables themselves may weigh far more,
+/// since each row has the texts of its resource and its scope: `table_weight` says how much.
+pub fn rebuilt_is_no_heavier()
     ensures { ForProfileLogs (λ groups. weight_of (Logs (rebuilt_logs groups)) ≤ weight_of (Logs groups)) }
 {}

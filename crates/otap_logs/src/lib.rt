@@ -1,7 +1,6 @@
 //! The rows of log records: the tables of a request, and the request of tables.
 #![tactic(auto)]
 
-mod columns;
 pub mod laws;
 mod reading;
 pub mod reading_laws;

@@ -5,13 +5,13 @@ ghost use Rattle.otap_checks.specs.Deciding.{CleanOrWrong, HaveByteCells};
 ghost use Rattle.otap_logs.specs.ReadingLaws.{ForTablesReadAs, IsWrongOnlyAs};
 ghost use Rattle.otap_logs.specs.Requests.{WrongLogs, regrouped_logs};
 
-/// Law: nothing is wrong with the rows of tables whose cells are bytes, or something is.
+/// Law: whether something is wrong with the rows of tables can be decided, where each cell of bytes holds bytes.
 pub fn clean_or_wrong()
     ensures { (tables : List Table) → HaveByteCells tables → CleanOrWrong (WrongLogs tables) }
 {}
 
-/// Law: tables that read as others, whose ids are given, make the same request, and what is wrong with them is wrong with the
-/// others too.
+/// Law: tables that have the cells and codings of others, where all ids of the others are given, make the same request, and what is
+/// wrong with them is wrong with the others too. Their columns of ids may have other types.
 pub fn cells_and_ids_decide()
     ensures wrong { ForTablesReadAs (λ tables others. IsWrongOnlyAs tables others) }
     ensures request { ForTablesReadAs (λ tables others. regrouped_logs tables ≡ regrouped_logs others) }

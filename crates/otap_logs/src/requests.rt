@@ -1,5 +1,5 @@
 //! The request of the tables of a batch.
-ghost use Rattle.std.specs.Prelude.{◌≡◌, ◌≤◌, min, IfErr, IfOk, OnOk};
+ghost use Rattle.std.specs.Prelude.{◌≡◌, ◌≤◌, min, IfErr, IfOk, OnOk, All};
 ghost use Rattle.otlp_model.specs.declared.request.Signal.TheVariants as signal;
 ghost use Rattle.otlp_model.specs.Weight.{weight_of};
 ghost use Rattle.otlp_model.specs.declared.request.Request.TheVariants.{Logs};
@@ -9,14 +9,14 @@ ghost use Rattle.otap_checks.specs.Refusing.{RefusesCheck};
 ghost use Rattle.otap_checks.specs.Regrouping.{RefusesRegroup};
 ghost use Rattle.otap_groups.specs.Made.{groups_of};
 ghost use Rattle.otlp_model.specs.Limits.{weight_limit, count_cap};
-ghost use Rattle.otap_checks.specs.Known.{KnowsAll};
+ghost use Rattle.otap_checks.specs.Known.{IsWeighed, KnowsAll};
 ghost use Rattle.otap_logs.specs.Requests.{AreCleanLogs, WrongLogs, regrouped_logs, regrouped_weight};
 
 use crate::reading::Records;
 use otap_attrs::CheckRefusal;
 use otap_cells::{Kind, Rows, TableSet};
 use otap_checks::{
-    Grouped, KnownIds, PairRows, RegroupRefusal, checked_ids, find_pairs, front_of, groups_within,
+    Grouped, KnownRows, PairRows, RegroupRefusal, checked_rows, find_pairs, front_of, groups_within,
 };
 use otap_groups::Main;
 use otlp_model::{Items, LogRecord, ResourceGroup, Signal};
@@ -35,7 +35,7 @@ pub fn check_rows<R: Rows>(alloc: Global, set: &TableSet<R>) -> Result<u64, Chec
     ensures weight { IfOk result (λ weight. weight ≡ min (regrouped_weight set.now) count_cap) }
     ensures refused { IfErr result (RefusesCheck (WrongLogs set.now)) }
 {
-    let known = checked_ids(alloc, set, Signal::Logs)?;
+    let known = checked_rows(alloc, set, Signal::Logs)?;
     let Some(rows) = set.get(Kind::Logs) else {
         return Ok(0);
     };
@@ -56,7 +56,7 @@ pub fn regroup<R: Rows>(
     ensures light { IfOk result (λ made. made.tree ≤ weight_limit) }
     ensures refused { IfErr result (RefusesRegroup (WrongLogs set.now) (regrouped_weight set.now)) }
 {
-    let known = checked_ids(alloc, set, Signal::Logs)?;
+    let known = checked_rows(alloc, set, Signal::Logs)?;
     let Some(rows) = set.get(Kind::Logs) else {
         return Ok(Grouped {
             groups: Items::new(alloc),
@@ -89,15 +89,16 @@ fn main_of<'a, R: Rows>(
     alloc: Global,
     set: &'a TableSet<R>,
     rows: &'a R,
-    known: &'a KnownIds,
+    known: &'a KnownRows,
 ) -> Result<LogRows<'a, R>, AllocError>
     requires clean { AreCleanLogs set.now }
-    requires known { KnowsAll signal.Logs set.now known.now }
+    requires known { KnowsAll signal.Logs set.now known.now.ids }
+    requires weights { All (IsWeighed set.now) known.now.weights.items }
     requires table { table_named table.Logs set.now ≡ R.table rows.now }
     requires kind { (R.table rows.now).kind ≡ table.Logs }
     ensures { IfOk result (λ main. groups_of main ≡ regrouped_logs set.now) }
 {
-    let front = front_of(rows, known);
+    let front = front_of(rows, &known.ids);
     let resources = find_pairs(alloc, set, Kind::ResourceAttrs, known)?;
     let scopes = find_pairs(alloc, set, Kind::ScopeAttrs, known)?;
     let pairs = find_pairs(alloc, set, Kind::LogAttrs, known)?;

@@ -12,11 +12,78 @@ ghost use Rattle.otap_logs.specs.Writable.{CanWriteRecord};
 
 use otap_attrs::{nested_bytes, push_filled, value_cells, value_cells_weight, write_attributes};
 use otap_cells::{
-    Kind, LogicalTable, TableSet, bits_cell, int_cell, number_cell, octets_cell, text_cell,
+    Kind, LogicalTable, TableSet, bits_cell, int_cell, log_columns, number_cell, octets_cell,
+    text_cell,
 };
 use otap_groups::{Flat, FrontCells, RowWriter, flatten, resources_of, scopes_of, write_rows};
 use otlp_model::{Items, LogRecord, ResourceGroup, sum_capped};
 use std::alloc::{AllocError, Global};
+
+/// The column of a body's type. The other columns of its value come after it.
+const BODY: usize = 15;
+
+/// The cell that a column has of a field, by how the field is written. `$body` names the cells of the body, which are made before.
+macro_rules! cell {
+    (bits $log:ident $field:ident $body:ident $column:literal) => {
+        bits_cell($log.$field)
+    };
+    (number $log:ident $field:ident $body:ident $column:literal) => {
+        number_cell($log.$field)
+    };
+    (int $log:ident $field:ident $body:ident $column:literal) => {
+        int_cell(i64::from($log.$field))
+    };
+    (text $log:ident $field:ident $body:ident $column:literal) => {
+        text_cell(&$log.$field)
+    };
+    (octets $log:ident $field:ident $body:ident $column:literal) => {
+        octets_cell(&$log.$field)
+    };
+    (value $log:ident $field:ident $body:ident $column:literal) => {
+        $body[$column - BODY]
+    };
+}
+
+/// The cells of a row: those in front, and then those of its record.
+macro_rules! row {
+    (($front:ident, $log:ident, $body:ident) $($field:ident: $how:ident { $($column:literal $($part:literal)+ $base:ident $($mark:ident)?);+ })*) => {
+        [
+            $front.id,
+            $front.resource_id,
+            $front.resource_url,
+            $front.resource_dropped,
+            $front.scope_id,
+            $front.scope_name,
+            $front.scope_version,
+            $front.scope_dropped,
+            $front.schema_url,
+            $($(cell!($how $log $field $body $column),)+)*
+        ]
+    };
+}
+
+/// The bytes of the cells of a field.
+macro_rules! row_weight {
+    (text $log:ident $field:ident) => {
+        $log.$field.len() as u64
+    };
+    (octets $log:ident $field:ident) => {
+        $log.$field.len() as u64
+    };
+    (value $log:ident $field:ident) => {
+        value_cells_weight(&$log.$field)
+    };
+    ($how:ident $log:ident $field:ident) => {
+        0
+    };
+}
+
+/// The bytes of the cells of each field.
+macro_rules! row_weights {
+    (($log:ident) $($field:ident: $how:ident { $($line:tt)* })*) => {
+        [$(row_weight!($how $log $field)),*]
+    };
+}
 
 /// Writes the rows of log records.
 #[derive(Clone, Copy, Debug)]
@@ -46,33 +113,7 @@ impl RowWriter for RecordWriter {
         let mut nested = Vec::new(self.alloc);
         nested_bytes(&mut nested, &log.body)?;
         let body = value_cells(&log.body, &nested);
-        table.push_cells(&[
-            front.id,
-            front.resource_id,
-            front.resource_url,
-            front.resource_dropped,
-            front.scope_id,
-            front.scope_name,
-            front.scope_version,
-            front.scope_dropped,
-            front.schema_url,
-            bits_cell(log.time),
-            bits_cell(log.observed),
-            octets_cell(&log.trace_id),
-            octets_cell(&log.span_id),
-            int_cell(i64::from(log.severity)),
-            text_cell(&log.severity_text),
-            body[0],
-            body[1],
-            body[2],
-            body[3],
-            body[4],
-            body[5],
-            body[6],
-            number_cell(log.dropped),
-            number_cell(log.flags),
-            text_cell(&log.event_name),
-        ])
+        table.push_cells(&log_columns!(row(front, log, body)))
     }
 }
 
@@ -81,13 +122,7 @@ pub(crate) fn record_weight(log: &LogRecord) -> u64
     requires { CanWriteRecord log.now }
     ensures { result ≡ min (cells_weight (record_cells log.now)) count_cap }
 {
-    sum_capped(&[
-        log.trace_id.len() as u64,
-        log.span_id.len() as u64,
-        log.severity_text.len() as u64,
-        value_cells_weight(&log.body),
-        log.event_name.len() as u64,
-    ])
+    sum_capped(&log_columns!(row_weights(log)))
 }
 
 /// The tables of a request of logs: its records, then its attributes, where there are some, by their payload types. Takes

@@ -16,7 +16,7 @@ use Rattle.otap_cells.specs.Tables.{Table}
 use Rattle.otap_metrics.specs.Requests.{regrouped_metrics}
 use Rattle.otap_metrics.specs.Tables.{tables_of_metrics}
 
--- the law holds for all metrics that telemetry can be, and that the profile has, within the weight limit
+-- the law holds for all metrics that a program can hold, that the profile has, and that are within the weight limit
 abbrev pub ForProfileMetrics : (List (ResourceGroup Metric) → Type 0) → Type 0
 ForProfileMetrics Law = (groups : List (ResourceGroup Metric)) → IsReal (Metrics groups) → IsProfile (Metrics groups)
     → weight_of (Metrics groups) ≤ weight_limit → Law groups

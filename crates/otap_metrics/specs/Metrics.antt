@@ -1,17 +1,19 @@
 -- Metrics as rows: the cells of a metric's own columns, and the metric that such cells make.
-use Rattle.std.specs.Prelude.{ℕ, ℤ, pos, Bool, false, List, [], ◌∷◌, if◌then◌else◌, ◌==◌}
+use Rattle.std.specs.Prelude.{ℕ, ℤ, pos, Bool, false, List, [], ◌∷◌, if◌then◌else◌, ◌==◌, codes}
 use Rattle.otlp_model.specs.declared.histograms.HistPoint.{HistPoint}
 use Rattle.otlp_model.specs.declared.histograms.SumPoint.{SumPoint}
 use Rattle.otlp_model.specs.declared.metrics.Metric.{Metric}
 use Rattle.otlp_model.specs.declared.metrics.Point.{Point}
 use Rattle.otlp_model.specs.declared.metrics.Shape.{Shape}
 use Rattle.otlp_model.specs.declared.metrics.Shape.TheVariants as shapes
-use Rattle.otap_cells.specs.Cells.{Cell, bytes_in, nat_in, cell_at}
+use Rattle.otap_cells.specs.ByName.{cell_of}
+use Rattle.otap_cells.specs.Cells.{Cell, bytes_in, nat_in}
+use Rattle.otap_cells.specs.Columns.{own_metrics}
 use Rattle.otap_cells.specs.Scalars.{text_cell, number_cell, int_cell, flag_cell, int_in, flag_in}
 
 -- ---- what a metric is written as
 
--- the number of its shape
+-- the number of its shape; 4 is an exponential histogram, which the profile doesn't have
 abbrev pub shape_number : Shape → ℕ
 shape_number shapes.Empty = 0
 shape_number (shapes.Gauge points) = 1
@@ -55,7 +57,8 @@ pub record Below : Type 0 where
   pub hist_points : List HistPoint
   pub summary_points : List SumPoint
 
--- the shape of a number; sums and histograms have a temporality, sums alone are monotonic or not
+-- the shape of a number; sums and histograms have a temporality, sums alone are monotonic or not, and what a shape doesn't have is
+-- passed over. Any other number reads as no shape; a table with one but 0 isn't clean
 abbrev pub shape_of : ℕ → ℤ → Bool → Below → Shape
 shape_of number temporality monotonic below =
     if number == 1 then shapes.Gauge below.points
@@ -67,8 +70,12 @@ shape_of number temporality monotonic below =
 -- THE METRIC that cells and points make; null reads as the default
 unfoldable pub metric_of : List Cell → Below → Metric
 metric_of cells below = record {
-  name = bytes_in (cell_at cells 1);
-  description = bytes_in (cell_at cells 2);
-  unit = bytes_in (cell_at cells 3);
-  shape = shape_of (nat_in (cell_at cells 0)) (int_in (cell_at cells 4)) (flag_in (cell_at cells 5)) below;
+  name = bytes_in (cell_of own_metrics (codes "name") cells);
+  description = bytes_in (cell_of own_metrics (codes "description") cells);
+  unit = bytes_in (cell_of own_metrics (codes "unit") cells);
+  shape = shape_of
+      (nat_in (cell_of own_metrics (codes "metric_type") cells))
+      (int_in (cell_of own_metrics (codes "aggregation_temporality") cells))
+      (flag_in (cell_of own_metrics (codes "is_monotonic") cells))
+      below;
 }

@@ -10,6 +10,7 @@ use Rattle.otap_cells.specs.declared.payload.Kind.TheVariants as table
 use Rattle.otap_cells.specs.Cells.{Cell}
 use Rattle.otap_cells.specs.Tables.{Table}
 use Rattle.otap_attrs.specs.declared.refusal.RowRefusal.{RowRefusal}
+use Rattle.otap_checks.specs.Refusing.{IsClean}
 use Rattle.otap_checks.specs.Regrouping.{regrouped_in}
 use Rattle.otap_checks.specs.RowDefects.{RowDefect}
 use Rattle.otap_points.specs.Found.{hist_points_in, points_in, summary_points_in}
@@ -31,6 +32,6 @@ regrouped_weight tables = weight_of (Metrics (regrouped_metrics tables))
 abbrev pub WrongMetrics : List Table → Kind → RowRefusal → Type 0
 WrongMetrics tables kind wrong = RowDefect signal.Metrics tables kind wrong
 
--- nothing is wrong with the rows of any of the tables
+-- nothing is wrong with the rows of any table of metrics or below them; other tables aren't looked at
 abbrev pub AreCleanMetrics : List Table → Type 0
-AreCleanMetrics tables = (kind : Kind) (why : RowRefusal) → WrongMetrics tables kind why → ⊥
+AreCleanMetrics tables = IsClean (WrongMetrics tables)

@@ -9,6 +9,7 @@ use Rattle.otlp_model.specs.declared.metrics.Metric.{Metric}
 use Rattle.otlp_model.specs.declared.metrics.Point.{Point}
 use Rattle.otlp_model.specs.declared.value.Pair.{Pair}
 use Rattle.otap_cells.specs.declared.payload.Kind.TheVariants as table
+use Rattle.otap_cells.specs.Places.{part_id, resource_id, scope_id}
 use Rattle.otap_cells.specs.Tables.{Table}
 use Rattle.otap_groups.specs.Flat.{items_of, resource_pairs, scope_pairs}
 use Rattle.otap_checks.specs.Written.{Written, pairs_below, parts_below, tables_written}
@@ -66,18 +67,18 @@ hist_exemplar_pairs groups = map (λ exemplar. exemplar.pairs) (all_hist_exempla
 -- below the metrics: the attributes of resources and scopes, the points and their attributes, the exemplars and theirs
 abbrev pub below_metrics : List (ResourceGroup Metric) → List Written
 below_metrics groups =
-    pairs_below table.ResourceAttrs table.Metrics 1 (resource_pairs groups)
-    ∷ pairs_below table.ScopeAttrs table.Metrics 4 (scope_pairs groups)
+    pairs_below table.ResourceAttrs table.Metrics resource_id (resource_pairs groups)
+    ∷ pairs_below table.ScopeAttrs table.Metrics scope_id (scope_pairs groups)
     ∷ parts_below table.NumberPoints table.Metrics point_cells (point_lists groups)
     ∷ parts_below table.SummaryPoints table.Metrics sum_point_cells (summary_lists groups)
     ∷ parts_below table.HistPoints table.Metrics hist_point_cells (hist_lists groups)
-    ∷ pairs_below table.NumberPointAttrs table.NumberPoints 0 (point_pairs groups)
-    ∷ pairs_below table.SummaryPointAttrs table.SummaryPoints 0 (summary_pairs groups)
-    ∷ pairs_below table.HistPointAttrs table.HistPoints 0 (hist_pairs groups)
+    ∷ pairs_below table.NumberPointAttrs table.NumberPoints part_id (point_pairs groups)
+    ∷ pairs_below table.SummaryPointAttrs table.SummaryPoints part_id (summary_pairs groups)
+    ∷ pairs_below table.HistPointAttrs table.HistPoints part_id (hist_pairs groups)
     ∷ parts_below table.NumberExemplars table.NumberPoints exemplar_cells (exemplar_lists groups)
     ∷ parts_below table.HistExemplars table.HistPoints exemplar_cells (hist_exemplar_lists groups)
-    ∷ pairs_below table.NumberExemplarAttrs table.NumberExemplars 0 (exemplar_pairs groups)
-    ∷ pairs_below table.HistExemplarAttrs table.HistExemplars 0 (hist_exemplar_pairs groups)
+    ∷ pairs_below table.NumberExemplarAttrs table.NumberExemplars part_id (exemplar_pairs groups)
+    ∷ pairs_below table.HistExemplarAttrs table.HistExemplars part_id (hist_exemplar_pairs groups)
     ∷ []
 
 -- THE TABLES of a request: its metrics, and of the tables below them those that have rows

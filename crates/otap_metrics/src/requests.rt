@@ -1,5 +1,5 @@
 //! The request of the tables of a batch.
-ghost use Rattle.std.specs.Prelude.{◌≡◌, ◌≤◌, min, IfErr, IfOk, OnOk};
+ghost use Rattle.std.specs.Prelude.{◌≡◌, ◌≤◌, min, IfErr, IfOk, OnOk, All};
 ghost use Rattle.otlp_model.specs.Limits.{weight_limit, count_cap};
 ghost use Rattle.otlp_model.specs.Weight.{weight_of, weight_of_exemplar, weight_of_hist_point, weight_of_point, weight_of_sum_point};
 ghost use Rattle.otlp_model.specs.declared.histograms.HistPoint.{HistPoint};
@@ -12,7 +12,7 @@ ghost use Rattle.otap_cells.specs.declared.payload.Kind.TheVariants as table;
 ghost use Rattle.otap_cells.specs.Named.{table_named};
 ghost use Rattle.otap_groups.specs.Beside.{FindAlike};
 ghost use Rattle.otap_groups.specs.Made.{groups_of};
-ghost use Rattle.otap_checks.specs.Known.{KnowsAll};
+ghost use Rattle.otap_checks.specs.Known.{IsWeighed, KnowsAll};
 ghost use Rattle.otap_checks.specs.Refusing.{Nothing, RefusesCheck};
 ghost use Rattle.otap_checks.specs.Regrouping.{RefusesRegroup};
 ghost use Rattle.otap_points.specs.Found.{hist_exemplars_in, hist_points_in, point_exemplars_in, points_in, summary_points_in};
@@ -22,7 +22,7 @@ use crate::reading;
 use otap_attrs::CheckRefusal;
 use otap_cells::{Kind, Rows, TableSet};
 use otap_checks::{
-    Grouped, KnownIds, PairRows, RegroupRefusal, checked_ids, find_pairs, front_of, groups_within,
+    Grouped, KnownRows, PairRows, RegroupRefusal, checked_rows, find_pairs, front_of, groups_within,
 };
 use otap_groups::{Lookup, Main};
 use otap_points::{
@@ -41,7 +41,7 @@ pub fn check_rows<R: Rows>(alloc: Global, set: &TableSet<R>) -> Result<u64, Chec
     ensures weight { IfOk result (λ weight. weight ≡ min (regrouped_weight set.now) count_cap) }
     ensures refused { IfErr result (RefusesCheck (WrongMetrics set.now)) }
 {
-    let known = checked_ids(alloc, set, Signal::Metrics)?;
+    let known = checked_rows(alloc, set, Signal::Metrics)?;
     let Some(rows) = set.get(Kind::Metrics) else {
         return Ok(0);
     };
@@ -61,7 +61,7 @@ pub fn regroup<R: Rows>(alloc: Global, set: &TableSet<R>) -> Result<Grouped<Metr
     ensures light { IfOk result (λ made. made.tree ≤ weight_limit) }
     ensures refused { IfErr result (RefusesRegroup (WrongMetrics set.now) (regrouped_weight set.now)) }
 {
-    let known = checked_ids(alloc, set, Signal::Metrics)?;
+    let known = checked_rows(alloc, set, Signal::Metrics)?;
     let Some(rows) = set.get(Kind::Metrics) else {
         return Ok(Grouped {
             groups: Items::new(alloc),
@@ -95,21 +95,46 @@ fn weight_by_exemplars<'a, R: Rows, X: Lookup<Child = Exemplar>, Y: Lookup<Child
     alloc: Global,
     set: &'a TableSet<R>,
     rows: &'a R,
-    known: &'a KnownIds,
+    known: &'a KnownRows,
     of_points: X,
     of_hists: Y,
 ) -> Result<u64, AllocError>
     requires clean { AreCleanMetrics set.now }
-    requires known { KnowsAll signal.Metrics set.now known.now }
+    requires known { KnowsAll signal.Metrics set.now known.now.ids }
+    requires weights { All (IsWeighed set.now) known.now.weights.items }
     requires table { table_named table.Metrics set.now ≡ R.table rows.now }
     requires kind { (R.table rows.now).kind ≡ table.Metrics }
     requires of_points { FindAlike (X.finds of_points) (point_exemplars_in set.now) }
     requires of_hists { FindAlike (Y.finds of_hists) (hist_exemplars_in set.now) }
-    requires points_weighed { (exemplar : Exemplar) → X.weigh exemplar ≡ weight_of_exemplar exemplar }
-    requires hists_weighed { (exemplar : Exemplar) → Y.weigh exemplar ≡ weight_of_exemplar exemplar }
+    requires point_exemplars_weighed { (exemplar : Exemplar) → X.weigh exemplar ≡ weight_of_exemplar exemplar }
+    requires hist_exemplars_weighed { (exemplar : Exemplar) → Y.weigh exemplar ≡ weight_of_exemplar exemplar }
     ensures { IfOk result (λ weight. weight ≡ min (regrouped_weight set.now) count_cap) }
 {
     let points = find_points(alloc, set, known, of_points)?;
+    let weight = weight_by_points(alloc, set, rows, known, points, of_hists)?;
+    Ok(weight)
+}
+
+/// The same, where number points are found in a given way too.
+fn weight_by_points<'a, R: Rows, N: Lookup<Child = Point>, Y: Lookup<Child = Exemplar>>(
+    alloc: Global,
+    set: &'a TableSet<R>,
+    rows: &'a R,
+    known: &'a KnownRows,
+    points: N,
+    of_hists: Y,
+) -> Result<u64, AllocError>
+    requires clean { AreCleanMetrics set.now }
+    requires known { KnowsAll signal.Metrics set.now known.now.ids }
+    requires weights { All (IsWeighed set.now) known.now.weights.items }
+    requires table { table_named table.Metrics set.now ≡ R.table rows.now }
+    requires kind { (R.table rows.now).kind ≡ table.Metrics }
+    requires points { FindAlike (N.finds points) (points_in set.now) }
+    requires of_hists { FindAlike (Y.finds of_hists) (hist_exemplars_in set.now) }
+    requires points_weighed { (point : Point) → N.weigh point ≡ weight_of_point point }
+    requires hist_exemplars_weighed { (exemplar : Exemplar) → Y.weigh exemplar ≡ weight_of_exemplar exemplar }
+    ensures { IfOk result (λ weight. weight ≡ min (regrouped_weight set.now) count_cap) }
+{
     let hist_points = find_hist_points(alloc, set, known, of_hists)?;
     let summary_points = find_summary_points(alloc, set, known)?;
     let weight = weight_with(alloc, set, rows, known, points, hist_points, summary_points)?;
@@ -121,24 +146,52 @@ fn groups_by_exemplars<'a, R: Rows, X: Lookup<Child = Exemplar>, Y: Lookup<Child
     alloc: Global,
     set: &'a TableSet<R>,
     rows: &'a R,
-    known: &'a KnownIds,
+    known: &'a KnownRows,
     of_points: X,
     of_hists: Y,
 ) -> Result<Grouped<Metric>, RegroupRefusal>
     requires clean { AreCleanMetrics set.now }
-    requires known { KnowsAll signal.Metrics set.now known.now }
+    requires known { KnowsAll signal.Metrics set.now known.now.ids }
+    requires weights { All (IsWeighed set.now) known.now.weights.items }
     requires table { table_named table.Metrics set.now ≡ R.table rows.now }
     requires kind { (R.table rows.now).kind ≡ table.Metrics }
     requires of_points { FindAlike (X.finds of_points) (point_exemplars_in set.now) }
     requires of_hists { FindAlike (Y.finds of_hists) (hist_exemplars_in set.now) }
-    requires points_weighed { (exemplar : Exemplar) → X.weigh exemplar ≡ weight_of_exemplar exemplar }
-    requires hists_weighed { (exemplar : Exemplar) → Y.weigh exemplar ≡ weight_of_exemplar exemplar }
+    requires point_exemplars_weighed { (exemplar : Exemplar) → X.weigh exemplar ≡ weight_of_exemplar exemplar }
+    requires hist_exemplars_weighed { (exemplar : Exemplar) → Y.weigh exemplar ≡ weight_of_exemplar exemplar }
     ensures groups { IfOk result (λ made. made.groups ≡ regrouped_metrics set.now) }
     ensures tree { IfOk result (λ made. made.tree ≡ weight_of (Metrics made.groups)) }
     ensures light { IfOk result (λ made. made.tree ≤ weight_limit) }
     ensures refused { IfErr result (RefusesRegroup Nothing (regrouped_weight set.now)) }
 {
     let points = find_points(alloc, set, known, of_points)?;
+    let made = groups_by_points(alloc, set, rows, known, points, of_hists)?;
+    Ok(made)
+}
+
+/// The same, where number points are found in a given way too.
+fn groups_by_points<'a, R: Rows, N: Lookup<Child = Point>, Y: Lookup<Child = Exemplar>>(
+    alloc: Global,
+    set: &'a TableSet<R>,
+    rows: &'a R,
+    known: &'a KnownRows,
+    points: N,
+    of_hists: Y,
+) -> Result<Grouped<Metric>, RegroupRefusal>
+    requires clean { AreCleanMetrics set.now }
+    requires known { KnowsAll signal.Metrics set.now known.now.ids }
+    requires weights { All (IsWeighed set.now) known.now.weights.items }
+    requires table { table_named table.Metrics set.now ≡ R.table rows.now }
+    requires kind { (R.table rows.now).kind ≡ table.Metrics }
+    requires points { FindAlike (N.finds points) (points_in set.now) }
+    requires of_hists { FindAlike (Y.finds of_hists) (hist_exemplars_in set.now) }
+    requires points_weighed { (point : Point) → N.weigh point ≡ weight_of_point point }
+    requires hist_exemplars_weighed { (exemplar : Exemplar) → Y.weigh exemplar ≡ weight_of_exemplar exemplar }
+    ensures groups { IfOk result (λ made. made.groups ≡ regrouped_metrics set.now) }
+    ensures tree { IfOk result (λ made. made.tree ≡ weight_of (Metrics made.groups)) }
+    ensures light { IfOk result (λ made. made.tree ≤ weight_limit) }
+    ensures refused { IfErr result (RefusesRegroup Nothing (regrouped_weight set.now)) }
+{
     let hist_points = find_hist_points(alloc, set, known, of_hists)?;
     let summary_points = find_summary_points(alloc, set, known)?;
     let made = groups_with(alloc, set, rows, known, points, hist_points, summary_points)?;
@@ -156,13 +209,14 @@ fn weight_with<
     alloc: Global,
     set: &'a TableSet<R>,
     rows: &'a R,
-    known: &'a KnownIds,
+    known: &'a KnownRows,
     points: N,
     hist_points: H,
     summary_points: S,
 ) -> Result<u64, AllocError>
     requires clean { AreCleanMetrics set.now }
-    requires known { KnowsAll signal.Metrics set.now known.now }
+    requires known { KnowsAll signal.Metrics set.now known.now.ids }
+    requires weights { All (IsWeighed set.now) known.now.weights.items }
     requires table { table_named table.Metrics set.now ≡ R.table rows.now }
     requires kind { (R.table rows.now).kind ≡ table.Metrics }
     requires points { FindAlike (N.finds points) (points_in set.now) }
@@ -188,13 +242,14 @@ fn groups_with<
     alloc: Global,
     set: &'a TableSet<R>,
     rows: &'a R,
-    known: &'a KnownIds,
+    known: &'a KnownRows,
     points: N,
     hist_points: H,
     summary_points: S,
 ) -> Result<Grouped<Metric>, RegroupRefusal>
     requires clean { AreCleanMetrics set.now }
-    requires known { KnowsAll signal.Metrics set.now known.now }
+    requires known { KnowsAll signal.Metrics set.now known.now.ids }
+    requires weights { All (IsWeighed set.now) known.now.weights.items }
     requires table { table_named table.Metrics set.now ≡ R.table rows.now }
     requires kind { (R.table rows.now).kind ≡ table.Metrics }
     requires points { FindAlike (N.finds points) (points_in set.now) }
@@ -224,13 +279,14 @@ fn main_of<
     alloc: Global,
     set: &'a TableSet<R>,
     rows: &'a R,
-    known: &'a KnownIds,
+    known: &'a KnownRows,
     points: N,
     hist_points: H,
     summary_points: S,
 ) -> Result<MetricRows<'a, R, N, H, S>, AllocError>
     requires clean { AreCleanMetrics set.now }
-    requires known { KnowsAll signal.Metrics set.now known.now }
+    requires known { KnowsAll signal.Metrics set.now known.now.ids }
+    requires weights { All (IsWeighed set.now) known.now.weights.items }
     requires table { table_named table.Metrics set.now ≡ R.table rows.now }
     requires kind { (R.table rows.now).kind ≡ table.Metrics }
     requires points { FindAlike (N.finds points) (points_in set.now) }
@@ -241,7 +297,7 @@ fn main_of<
     requires summary_points_weighed { (point : SumPoint) → S.weigh point ≡ weight_of_sum_point point }
     ensures { IfOk result (λ main. groups_of main ≡ regrouped_metrics set.now) }
 {
-    let front = front_of(rows, known);
+    let front = front_of(rows, &known.ids);
     let resources = find_pairs(alloc, set, Kind::ResourceAttrs, known)?;
     let scopes = find_pairs(alloc, set, Kind::ScopeAttrs, known)?;
     Ok(Main {

@@ -29,23 +29,23 @@ hist_exemplars_are_parts = record { wide = omega arith; other = refl; id = refl;
 
 pub has_point_value : HasValueAt table.NumberPointAttrs 2
 unfolding deep_attrs
-has_point_value = record { bases = refl }
+has_point_value = record { names = refl; bases = refl }
 
 pub has_exemplar_value : HasValueAt table.NumberExemplarAttrs 2
 unfolding deep_attrs
-has_exemplar_value = record { bases = refl }
+has_exemplar_value = record { names = refl; bases = refl }
 
 pub has_summary_value : HasValueAt table.SummaryPointAttrs 2
 unfolding deep_attrs
-has_summary_value = record { bases = refl }
+has_summary_value = record { names = refl; bases = refl }
 
 pub has_hist_value : HasValueAt table.HistPointAttrs 2
 unfolding deep_attrs
-has_hist_value = record { bases = refl }
+has_hist_value = record { names = refl; bases = refl }
 
 pub has_hist_exemplar_value : HasValueAt table.HistExemplarAttrs 2
 unfolding deep_attrs
-has_hist_exemplar_value = record { bases = refl }
+has_hist_exemplar_value = record { names = refl; bases = refl }
 
 pub point_width : 5 < width_of table.NumberPoints
 unfolding number_points

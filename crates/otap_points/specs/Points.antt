@@ -1,12 +1,14 @@
 -- The points of all shapes, and exemplars, as rows: the cells of their own columns, and what such cells make.
-use Rattle.std.specs.Prelude.{ℕ, List, [], ◌∷◌, Option, None, Some, map}
+use Rattle.std.specs.Prelude.{ℕ, List, [], ◌∷◌, Option, None, Some, codes, map}
 use Rattle.otlp_model.specs.declared.histograms.HistPoint.{HistPoint}
 use Rattle.otlp_model.specs.declared.histograms.Quantile.{Quantile}
 use Rattle.otlp_model.specs.declared.histograms.SumPoint.{SumPoint}
 use Rattle.otlp_model.specs.declared.metrics.Exemplar.{Exemplar}
 use Rattle.otlp_model.specs.declared.metrics.Point.{Point}
 use Rattle.otlp_model.specs.declared.value.Pair.{Pair}
-use Rattle.otap_cells.specs.Cells.{Cell, null, bits, bytes_in, nat_in, cell_at}
+use Rattle.otap_cells.specs.ByName.{cell_of}
+use Rattle.otap_cells.specs.Cells.{Cell, null, bits, bytes_in, nat_in}
+use Rattle.otap_cells.specs.Columns.{own_exemplars, own_hist_points, own_number_points, own_summary_points}
 use Rattle.otap_cells.specs.Scalars.{text_cell, number_cell, bits_cell, bits_in}
 use Rattle.otap_points.specs.Lists.{list_cell, list_in}
 use Rattle.otap_points.specs.Numbers.{double_value, int_value, measured_in}
@@ -20,10 +22,12 @@ exemplar_cells exemplar =
 -- THE EXEMPLAR that cells and pairs make
 unfoldable pub exemplar_of : List Cell → List Pair → Exemplar
 exemplar_of cells pairs = record {
-  time = bits_in (cell_at cells 0);
-  value = measured_in (cell_at cells 1) (cell_at cells 2);
-  span_id = bytes_in (cell_at cells 3);
-  trace_id = bytes_in (cell_at cells 4);
+  time = bits_in (cell_of own_exemplars (codes "time_unix_nano") cells);
+  value = measured_in
+      (cell_of own_exemplars (codes "int_value") cells)
+      (cell_of own_exemplars (codes "double_value") cells);
+  span_id = bytes_in (cell_of own_exemplars (codes "span_id") cells);
+  trace_id = bytes_in (cell_of own_exemplars (codes "trace_id") cells);
   pairs = pairs;
 }
 
@@ -36,10 +40,12 @@ point_cells point =
 -- THE POINT that cells, pairs and exemplars make; null reads as the default
 unfoldable pub point_of : List Cell → List Pair → List Exemplar → Point
 point_of cells pairs exemplars = record {
-  start = bits_in (cell_at cells 0);
-  time = bits_in (cell_at cells 1);
-  value = measured_in (cell_at cells 2) (cell_at cells 3);
-  flags = nat_in (cell_at cells 4);
+  start = bits_in (cell_of own_number_points (codes "start_time_unix_nano") cells);
+  time = bits_in (cell_of own_number_points (codes "time_unix_nano") cells);
+  value = measured_in
+      (cell_of own_number_points (codes "int_value") cells)
+      (cell_of own_number_points (codes "double_value") cells);
+  flags = nat_in (cell_of own_number_points (codes "flags") cells);
   pairs = pairs;
   exemplars = exemplars;
 }
@@ -64,15 +70,15 @@ hist_point_cells point =
 -- THE POINT that cells, pairs and exemplars make; null reads as the default
 unfoldable pub hist_point_of : List Cell → List Pair → List Exemplar → HistPoint
 hist_point_of cells pairs exemplars = record {
-  start = bits_in (cell_at cells 0);
-  time = bits_in (cell_at cells 1);
-  count = bits_in (cell_at cells 2);
-  buckets = list_in (cell_at cells 3);
-  bounds = list_in (cell_at cells 4);
-  sum = optional_in (cell_at cells 5);
-  flags = nat_in (cell_at cells 6);
-  min = optional_in (cell_at cells 7);
-  max = optional_in (cell_at cells 8);
+  start = bits_in (cell_of own_hist_points (codes "start_time_unix_nano") cells);
+  time = bits_in (cell_of own_hist_points (codes "time_unix_nano") cells);
+  count = bits_in (cell_of own_hist_points (codes "count") cells);
+  buckets = list_in (cell_of own_hist_points (codes "bucket_counts") cells);
+  bounds = list_in (cell_of own_hist_points (codes "explicit_bounds") cells);
+  sum = optional_in (cell_of own_hist_points (codes "sum") cells);
+  flags = nat_in (cell_of own_hist_points (codes "flags") cells);
+  min = optional_in (cell_of own_hist_points (codes "min") cells);
+  max = optional_in (cell_of own_hist_points (codes "max") cells);
   pairs = pairs;
   exemplars = exemplars;
 }
@@ -98,11 +104,13 @@ quantiles_of _ _ = []
 -- THE POINT that cells and pairs make
 unfoldable pub sum_point_of : List Cell → List Pair → SumPoint
 sum_point_of cells pairs = record {
-  start = bits_in (cell_at cells 0);
-  time = bits_in (cell_at cells 1);
-  count = bits_in (cell_at cells 2);
-  sum = bits_in (cell_at cells 3);
-  quantiles = quantiles_of (list_in (cell_at cells 4)) (list_in (cell_at cells 5));
-  flags = nat_in (cell_at cells 6);
+  start = bits_in (cell_of own_summary_points (codes "start_time_unix_nano") cells);
+  time = bits_in (cell_of own_summary_points (codes "time_unix_nano") cells);
+  count = bits_in (cell_of own_summary_points (codes "count") cells);
+  sum = bits_in (cell_of own_summary_points (codes "sum") cells);
+  quantiles = quantiles_of
+      (list_in (cell_of own_summary_points (codes "quantiles") cells))
+      (list_in (cell_of own_summary_points (codes "quantile_values") cells));
+  flags = nat_in (cell_of own_summary_points (codes "flags") cells);
   pairs = pairs;
 }

@@ -1,5 +1,5 @@
 //! Points and exemplars, found by what they are below.
-ghost use Rattle.std.specs.Prelude.{◌≡◌, true, IfOk};
+ghost use Rattle.std.specs.Prelude.{◌≡◌, true, IfOk, All};
 ghost use Rattle.otlp_model.specs.Weight.{weight_of_exemplar};
 ghost use Rattle.otlp_model.specs.declared.metrics.Exemplar.{Exemplar};
 ghost use Rattle.otlp_model.specs.declared.request.Signal.TheVariants as signal;
@@ -8,7 +8,7 @@ ghost use Rattle.otap_cells.specs.Continuing.{has_attributes};
 ghost use Rattle.otap_cells.specs.Named.{table_named};
 ghost use Rattle.otap_groups.specs.Beside.{FindAlike, FindsIf};
 ghost use Rattle.otap_groups.specs.Kinds.{IsPart};
-ghost use Rattle.otap_checks.specs.Known.{Knows, KnowsAll};
+ghost use Rattle.otap_checks.specs.Known.{IsWeighed, Knows, KnowsAll};
 ghost use Rattle.otap_points.specs.Found.{exemplars_in, hist_exemplars_in, hist_points_in, point_exemplars_in, points_in, summary_points_in};
 
 use crate::exemplars::Exemplars;
@@ -16,7 +16,7 @@ use crate::hist_points::HistPoints;
 use crate::number_points::Points;
 use crate::summary_points::SumPoints;
 use otap_cells::{Kind, Rows, TableSet};
-use otap_checks::{KnownIds, PairRows, find_pairs, index_rows};
+use otap_checks::{KnownRows, PairRows, find_pairs, index_rows};
 use otap_groups::{Children, Lookup};
 use otlp_model::Exemplar;
 use std::alloc::{AllocError, Global};
@@ -38,9 +38,10 @@ pub type SumPointRows<'a, R> = Option<Children<'a, SumPoints<'a, R, PairRows<'a,
 pub fn find_point_exemplars<'a, R: Rows>(
     alloc: Global,
     set: &'a TableSet<R>,
-    known: &'a KnownIds,
+    known: &'a KnownRows,
 ) -> Result<ExemplarRows<'a, R>, AllocError>
-    requires { KnowsAll signal.Metrics set.now known.now }
+    requires known { KnowsAll signal.Metrics set.now known.now.ids }
+    requires weights { All (IsWeighed set.now) known.now.weights.items }
     ensures { IfOk result (FindsIf (point_exemplars_in set.now)) }
 {
     let kind = Kind::NumberExemplars;
@@ -52,9 +53,10 @@ pub fn find_point_exemplars<'a, R: Rows>(
 pub fn find_hist_exemplars<'a, R: Rows>(
     alloc: Global,
     set: &'a TableSet<R>,
-    known: &'a KnownIds,
+    known: &'a KnownRows,
 ) -> Result<ExemplarRows<'a, R>, AllocError>
-    requires { KnowsAll signal.Metrics set.now known.now }
+    requires known { KnowsAll signal.Metrics set.now known.now.ids }
+    requires weights { All (IsWeighed set.now) known.now.weights.items }
     ensures { IfOk result (FindsIf (hist_exemplars_in set.now)) }
 {
     let kind = Kind::HistExemplars;
@@ -67,10 +69,11 @@ pub fn find_hist_exemplars<'a, R: Rows>(
 pub fn find_points<'a, R: Rows, X: Lookup<Child = Exemplar>>(
     alloc: Global,
     set: &'a TableSet<R>,
-    known: &'a KnownIds,
+    known: &'a KnownRows,
     exemplars: X,
 ) -> Result<PointRows<'a, R, X>, AllocError>
-    requires known { KnowsAll signal.Metrics set.now known.now }
+    requires known { KnowsAll signal.Metrics set.now known.now.ids }
+    requires weights { All (IsWeighed set.now) known.now.weights.items }
     requires exemplars { FindAlike (X.finds exemplars) (point_exemplars_in set.now) }
     requires weighed { (exemplar : Exemplar) → X.weigh exemplar ≡ weight_of_exemplar exemplar }
     ensures { IfOk result (FindsIf (points_in set.now)) }
@@ -85,7 +88,7 @@ pub fn find_points<'a, R: Rows, X: Lookup<Child = Exemplar>>(
         pairs,
         exemplars,
     };
-    let made = index_rows(alloc, set, kind, known, points)?;
+    let made = index_rows(alloc, set, kind, &known.ids, points)?;
     Ok(Some(made))
 }
 
@@ -93,10 +96,11 @@ pub fn find_points<'a, R: Rows, X: Lookup<Child = Exemplar>>(
 pub fn find_hist_points<'a, R: Rows, X: Lookup<Child = Exemplar>>(
     alloc: Global,
     set: &'a TableSet<R>,
-    known: &'a KnownIds,
+    known: &'a KnownRows,
     exemplars: X,
 ) -> Result<HistPointRows<'a, R, X>, AllocError>
-    requires known { KnowsAll signal.Metrics set.now known.now }
+    requires known { KnowsAll signal.Metrics set.now known.now.ids }
+    requires weights { All (IsWeighed set.now) known.now.weights.items }
     requires exemplars { FindAlike (X.finds exemplars) (hist_exemplars_in set.now) }
     requires weighed { (exemplar : Exemplar) → X.weigh exemplar ≡ weight_of_exemplar exemplar }
     ensures { IfOk result (FindsIf (hist_points_in set.now)) }
@@ -111,7 +115,7 @@ pub fn find_hist_points<'a, R: Rows, X: Lookup<Child = Exemplar>>(
         pairs,
         exemplars,
     };
-    let made = index_rows(alloc, set, kind, known, points)?;
+    let made = index_rows(alloc, set, kind, &known.ids, points)?;
     Ok(Some(made))
 }
 
@@ -119,9 +123,10 @@ pub fn find_hist_points<'a, R: Rows, X: Lookup<Child = Exemplar>>(
 pub fn find_summary_points<'a, R: Rows>(
     alloc: Global,
     set: &'a TableSet<R>,
-    known: &'a KnownIds,
+    known: &'a KnownRows,
 ) -> Result<SumPointRows<'a, R>, AllocError>
-    requires { KnowsAll signal.Metrics set.now known.now }
+    requires known { KnowsAll signal.Metrics set.now known.now.ids }
+    requires weights { All (IsWeighed set.now) known.now.weights.items }
     ensures { IfOk result (FindsIf (summary_points_in set.now)) }
 {
     let kind = Kind::SummaryPoints;
@@ -129,7 +134,7 @@ pub fn find_summary_points<'a, R: Rows>(
         return Ok(None);
     };
     let pairs = find_pairs(alloc, set, Kind::SummaryPointAttrs, known)?;
-    let made = index_rows(alloc, set, kind, known, SumPoints { rows, pairs })?;
+    let made = index_rows(alloc, set, kind, &known.ids, SumPoints { rows, pairs })?;
     Ok(Some(made))
 }
 
@@ -139,19 +144,20 @@ fn find_exemplars<'a, R: Rows>(
     set: &'a TableSet<R>,
     kind: Kind,
     attributes: Kind,
-    known: &'a KnownIds,
+    known: &'a KnownRows,
 ) -> Result<ExemplarRows<'a, R>, AllocError>
     requires part { IsPart kind }
     requires columns { columns_of kind ≡ exemplars }
-    requires known { Knows (table_named kind set.now) kind known.now }
+    requires known { Knows (table_named kind set.now) kind known.now.ids }
     requires attributes { has_attributes attributes ≡ true }
-    requires pairs { Knows (table_named attributes set.now) attributes known.now }
+    requires pairs { Knows (table_named attributes set.now) attributes known.now.ids }
+    requires weights { All (IsWeighed set.now) known.now.weights.items }
     ensures { IfOk result (FindsIf (exemplars_in (table_named kind set.now) (table_named attributes set.now))) }
 {
     let Some(rows) = set.get(kind) else {
         return Ok(None);
     };
     let pairs = find_pairs(alloc, set, attributes, known)?;
-    let made = index_rows(alloc, set, kind, known, Exemplars { rows, pairs })?;
+    let made = index_rows(alloc, set, kind, &known.ids, Exemplars { rows, pairs })?;
     Ok(Some(made))
 }

@@ -7,7 +7,7 @@ use otap_attrs::CheckRefusal;
 use otap_cells::{LogicalTable, Rows, TableSet};
 use otap_checks::{Grouped, RegroupRefusal};
 use otap_metrics::laws::{
-    each_metric_has_a_row, tables_are_light, tables_by_type, tables_can_be_written,
+    each_metric_has_a_row, rebuilt_is_no_heavier, tables_by_type, tables_can_be_written,
     tables_have_no_defects, tables_tell_the_same,
 };
 use otap_metrics::reading_laws::cells_and_ids_decide;
@@ -55,7 +55,7 @@ impl SignalTables for MetricSignal {
     fn tables_come_back() {
         tables_tell_the_same();
         tables_have_no_defects();
-        tables_are_light();
+        rebuilt_is_no_heavier();
         tables_can_be_written();
         tables_by_type();
         each_metric_has_a_row();

@@ -4,13 +4,11 @@ ghost use Rattle.otlp_model.specs.Limits.{weight_limit, count_cap};
 ghost use Rattle.otlp_model.specs.Profile.{IsProfile};
 ghost use Rattle.otlp_model.specs.Weight.{weight_of};
 ghost use Rattle.otlp_model.specs.declared.groups.ResourceGroup.{ResourceGroup};
-ghost use Rattle.otap_attrs.specs.declared.refusal.RowRefusal.{RowRefusal};
 ghost use Rattle.otap_cells.specs.GivenIds.{ReadAs};
 ghost use Rattle.otap_cells.specs.Tables.{Table};
 ghost use Rattle.otap_cells.specs.Weights.{weight_of_tables};
-ghost use Rattle.otap_cells.specs.declared.payload.Kind.{Kind};
 ghost use Rattle.otap_checks.specs.Reading.{HasAllIds};
-ghost use Rattle.otap_checks.specs.Refusing.{RefusesCheck};
+ghost use Rattle.otap_checks.specs.Refusing.{IsClean, RefusesCheck};
 ghost use Rattle.otap_checks.specs.Regrouping.{RefusesRegroup};
 ghost use Rattle.otap_checks.specs.RowDefects.{RowDefect};
 ghost use Rattle.otap_signals.specs.Regroups.{IsLight, IsRegrouped, RefusesTables};
@@ -52,7 +50,7 @@ pub trait SignalTables {
 
     /// Looks at the rows of tables, and returns what their request weighs, or 2^63 where it is more. It builds nothing.
     fn check_rows<R: Rows>(alloc: Global, set: &TableSet<R>) -> Result<u64, CheckRefusal>
-        ensures clean { OnOk result ((kind : Kind) (why : RowRefusal) → RowDefect rows.signal set.now kind why → ⊥) }
+        ensures clean { OnOk result (IsClean (RowDefect rows.signal set.now)) }
         ensures weight { IfOk result (λ weight. weight ≡ min (weight_of (rows.request (rows.regrouped set.now))) count_cap) }
         ensures refused { IfErr result (RefusesCheck (RowDefect rows.signal set.now)) };
 
@@ -62,7 +60,7 @@ pub trait SignalTables {
         alloc: Global,
         set: &TableSet<R>,
     ) -> Result<Grouped<Self::Item>, RegroupRefusal>
-        ensures clean { OnOk result ((kind : Kind) (why : RowRefusal) → RowDefect rows.signal set.now kind why → ⊥) }
+        ensures clean { OnOk result (IsClean (RowDefect rows.signal set.now)) }
         ensures groups { IfOk result (λ made. made.groups ≡ rows.regrouped set.now) }
         ensures tree { IfOk result (λ made. made.tree ≡ weight_of (rows.request made.groups)) }
         ensures light { IfOk result (λ made. made.tree ≤ weight_limit) }

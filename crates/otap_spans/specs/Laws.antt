@@ -16,7 +16,7 @@ use Rattle.otap_cells.specs.Tables.{Table}
 use Rattle.otap_spans.specs.Requests.{regrouped_spans}
 use Rattle.otap_spans.specs.Tables.{tables_of_spans}
 
--- the law holds for all spans that telemetry can be, and that the profile has, within the weight limit
+-- the law holds for all spans that a program can hold, that the profile has, and that are within the weight limit
 abbrev pub ForProfileSpans : (List (ResourceGroup Span) → Type 0) → Type 0
 ForProfileSpans Law = (groups : List (ResourceGroup Span)) → IsReal (Traces groups) → IsProfile (Traces groups) → weight_of (Traces groups) ≤ weight_limit
     → Law groups

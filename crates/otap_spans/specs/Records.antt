@@ -1,10 +1,12 @@
 -- Spans, events and links as rows: the own cells of each, and what such cells make.
-use Rattle.std.specs.Prelude.{ℕ, ◌+◌, ◌-◌, ◌^◌, ◌%◌, List, [], ◌∷◌}
+use Rattle.std.specs.Prelude.{ℕ, ◌+◌, ◌-◌, ◌^◌, ◌%◌, List, [], ◌∷◌, codes}
 use Rattle.otlp_model.specs.declared.value.Pair.{Pair}
 use Rattle.otlp_model.specs.declared.spans.Span.{Span}
 use Rattle.otlp_model.specs.declared.spans.Event.{Event}
 use Rattle.otlp_model.specs.declared.spans.Link.{Link}
-use Rattle.otap_cells.specs.Cells.{Cell, bytes_in, nat_in, cell_at}
+use Rattle.otap_cells.specs.ByName.{cell_of}
+use Rattle.otap_cells.specs.Cells.{Cell, bytes_in, nat_in}
+use Rattle.otap_cells.specs.Columns.{own_events, own_links, own_spans}
 use Rattle.otap_cells.specs.Scalars.{text_cell, number_cell, int_cell, bits_cell, int_in, bits_in}
 
 -- ---- times: a duration is the end minus the start modulo 2^64, also where the end is before the start
@@ -36,40 +38,42 @@ link_cells link =
 -- THE SPAN that cells, pairs, events and links make
 unfoldable pub span_of : List Cell → List Pair → List Event → List Link → Span
 span_of cells pairs events links = record {
-  trace_id = bytes_in (cell_at cells 2);
-  span_id = bytes_in (cell_at cells 3);
-  parent_span_id = bytes_in (cell_at cells 5);
-  trace_state = bytes_in (cell_at cells 4);
-  name = bytes_in (cell_at cells 6);
-  kind = int_in (cell_at cells 7);
-  start = bits_in (cell_at cells 0);
-  end = end_time (bits_in (cell_at cells 0)) (bits_in (cell_at cells 1));
-  flags = nat_in (cell_at cells 13);
+  trace_id = bytes_in (cell_of own_spans (codes "trace_id") cells);
+  span_id = bytes_in (cell_of own_spans (codes "span_id") cells);
+  parent_span_id = bytes_in (cell_of own_spans (codes "parent_span_id") cells);
+  trace_state = bytes_in (cell_of own_spans (codes "trace_state") cells);
+  name = bytes_in (cell_of own_spans (codes "name") cells);
+  kind = int_in (cell_of own_spans (codes "kind") cells);
+  start = bits_in (cell_of own_spans (codes "start_time_unix_nano") cells);
+  end = end_time
+      (bits_in (cell_of own_spans (codes "start_time_unix_nano") cells))
+      (bits_in (cell_of own_spans (codes "duration_time_unix_nano") cells));
+  flags = nat_in (cell_of own_spans (codes "flags") cells);
   pairs = pairs;
-  dropped_pairs = nat_in (cell_at cells 8);
+  dropped_pairs = nat_in (cell_of own_spans (codes "dropped_attributes_count") cells);
   events = events;
-  dropped_events = nat_in (cell_at cells 9);
+  dropped_events = nat_in (cell_of own_spans (codes "dropped_events_count") cells);
   links = links;
-  dropped_links = nat_in (cell_at cells 10);
-  status_code = int_in (cell_at cells 11);
-  status_message = bytes_in (cell_at cells 12);
+  dropped_links = nat_in (cell_of own_spans (codes "dropped_links_count") cells);
+  status_code = int_in (cell_of own_spans (codes "status.code") cells);
+  status_message = bytes_in (cell_of own_spans (codes "status.status_message") cells);
 }
 
 -- THE EVENT, and THE LINK, that cells and pairs make
 unfoldable pub event_of : List Cell → List Pair → Event
 event_of cells pairs = record {
-  time = bits_in (cell_at cells 0);
-  name = bytes_in (cell_at cells 1);
+  time = bits_in (cell_of own_events (codes "time_unix_nano") cells);
+  name = bytes_in (cell_of own_events (codes "name") cells);
   pairs = pairs;
-  dropped = nat_in (cell_at cells 2);
+  dropped = nat_in (cell_of own_events (codes "dropped_attributes_count") cells);
 }
 
 unfoldable pub link_of : List Cell → List Pair → Link
 link_of cells pairs = record {
-  trace_id = bytes_in (cell_at cells 0);
-  span_id = bytes_in (cell_at cells 1);
-  trace_state = bytes_in (cell_at cells 2);
-  flags = nat_in (cell_at cells 4);
+  trace_id = bytes_in (cell_of own_links (codes "trace_id") cells);
+  span_id = bytes_in (cell_of own_links (codes "span_id") cells);
+  trace_state = bytes_in (cell_of own_links (codes "trace_state") cells);
+  flags = nat_in (cell_of own_links (codes "flags") cells);
   pairs = pairs;
-  dropped = nat_in (cell_at cells 3);
+  dropped = nat_in (cell_of own_links (codes "dropped_attributes_count") cells);
 }

@@ -16,6 +16,7 @@ use Rattle.otap_groups.specs.Children.{children}
 use Rattle.otap_attrs.specs.declared.refusal.RowRefusal.{RowRefusal}
 use Rattle.otap_attrs.specs.Index.{pairs_in}
 use Rattle.otap_checks.specs.Reading.{part_rows_in}
+use Rattle.otap_checks.specs.Refusing.{IsClean}
 use Rattle.otap_checks.specs.Regrouping.{regrouped_in}
 use Rattle.otap_checks.specs.RowDefects.{RowDefect}
 use Rattle.otap_spans.specs.Records.{span_of, event_of, link_of}
@@ -57,6 +58,6 @@ regrouped_weight tables = weight_of (Traces (regrouped_spans tables))
 abbrev pub WrongSpans : List Table → Kind → RowRefusal → Type 0
 WrongSpans tables kind wrong = RowDefect signal.Traces tables kind wrong
 
--- nothing is wrong with the rows of any of the tables
+-- nothing is wrong with the rows of any table of spans or below them; other tables aren't looked at
 abbrev pub AreCleanSpans : List Table → Type 0
-AreCleanSpans tables = (kind : Kind) (why : RowRefusal) → WrongSpans tables kind why → ⊥
+AreCleanSpans tables = IsClean (WrongSpans tables)

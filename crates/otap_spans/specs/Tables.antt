@@ -7,6 +7,7 @@ use Rattle.otlp_model.specs.declared.spans.Event.{Event}
 use Rattle.otlp_model.specs.declared.spans.Link.{Link}
 use Rattle.otlp_model.specs.declared.value.Pair.{Pair}
 use Rattle.otap_cells.specs.declared.payload.Kind.TheVariants as table
+use Rattle.otap_cells.specs.Places.{main_id, part_id, resource_id, scope_id}
 use Rattle.otap_cells.specs.Tables.{Table}
 use Rattle.otap_groups.specs.Flat.{items_of, resource_pairs, scope_pairs}
 use Rattle.otap_checks.specs.Written.{Written, pairs_below, parts_below, tables_written}
@@ -38,13 +39,13 @@ link_pairs groups = map (λ link. link.pairs) (all_links groups)
 -- below the spans: the attributes of resources, scopes and spans, the events, the links, and the attributes of both
 abbrev pub below_spans : List (ResourceGroup Span) → List Written
 below_spans groups =
-    pairs_below table.ResourceAttrs table.Spans 1 (resource_pairs groups)
-    ∷ pairs_below table.ScopeAttrs table.Spans 4 (scope_pairs groups)
-    ∷ pairs_below table.SpanAttrs table.Spans 0 (span_pairs groups)
+    pairs_below table.ResourceAttrs table.Spans resource_id (resource_pairs groups)
+    ∷ pairs_below table.ScopeAttrs table.Spans scope_id (scope_pairs groups)
+    ∷ pairs_below table.SpanAttrs table.Spans main_id (span_pairs groups)
     ∷ parts_below table.SpanEvents table.Spans event_cells (event_lists groups)
     ∷ parts_below table.SpanLinks table.Spans link_cells (link_lists groups)
-    ∷ pairs_below table.EventAttrs table.SpanEvents 0 (event_pairs groups)
-    ∷ pairs_below table.LinkAttrs table.SpanLinks 0 (link_pairs groups)
+    ∷ pairs_below table.EventAttrs table.SpanEvents part_id (event_pairs groups)
+    ∷ pairs_below table.LinkAttrs table.SpanLinks part_id (link_pairs groups)
     ∷ []
 
 -- THE TABLES of a request: its spans, and of the tables below them those that have rows

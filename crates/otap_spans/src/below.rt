@@ -1,13 +1,13 @@
 //! What is found below the rows of spans: events and links.
-ghost use Rattle.std.specs.Prelude.{IfOk};
+ghost use Rattle.std.specs.Prelude.{IfOk, All};
 ghost use Rattle.otlp_model.specs.declared.request.Signal.TheVariants as signal;
 ghost use Rattle.otap_groups.specs.Beside.{FindsIf};
-ghost use Rattle.otap_checks.specs.Known.{KnowsAll};
+ghost use Rattle.otap_checks.specs.Known.{IsWeighed, KnowsAll};
 ghost use Rattle.otap_spans.specs.Requests.{span_events_in, span_links_in};
 
 use crate::reading::{Events, Links};
 use otap_cells::{Kind, Rows, TableSet};
-use otap_checks::{KnownIds, PairRows, find_pairs, index_rows};
+use otap_checks::{KnownRows, PairRows, find_pairs, index_rows};
 use otap_groups::Children;
 use std::alloc::{AllocError, Global};
 
@@ -22,9 +22,10 @@ pub type LinkRows<'a, R> = Option<Children<'a, Links<'a, R, PairRows<'a, R>>>>;
 pub(crate) fn find_events<'a, R: Rows>(
     alloc: Global,
     set: &'a TableSet<R>,
-    known: &'a KnownIds,
+    known: &'a KnownRows,
 ) -> Result<EventRows<'a, R>, AllocError>
-    requires { KnowsAll signal.Traces set.now known.now }
+    requires known { KnowsAll signal.Traces set.now known.now.ids }
+    requires weights { All (IsWeighed set.now) known.now.weights.items }
     ensures { IfOk result (FindsIf (span_events_in set.now)) }
 {
     let kind = Kind::SpanEvents;
@@ -32,7 +33,7 @@ pub(crate) fn find_events<'a, R: Rows>(
         return Ok(None);
     };
     let pairs = find_pairs(alloc, set, Kind::EventAttrs, known)?;
-    let made = index_rows(alloc, set, kind, known, Events { rows, pairs })?;
+    let made = index_rows(alloc, set, kind, &known.ids, Events { rows, pairs })?;
     Ok(Some(made))
 }
 
@@ -40,9 +41,10 @@ pub(crate) fn find_events<'a, R: Rows>(
 pub(crate) fn find_links<'a, R: Rows>(
     alloc: Global,
     set: &'a TableSet<R>,
-    known: &'a KnownIds,
+    known: &'a KnownRows,
 ) -> Result<LinkRows<'a, R>, AllocError>
-    requires { KnowsAll signal.Traces set.now known.now }
+    requires known { KnowsAll signal.Traces set.now known.now.ids }
+    requires weights { All (IsWeighed set.now) known.now.weights.items }
     ensures { IfOk result (FindsIf (span_links_in set.now)) }
 {
     let kind = Kind::SpanLinks;
@@ -50,6 +52,6 @@ pub(crate) fn find_links<'a, R: Rows>(
         return Ok(None);
     };
     let pairs = find_pairs(alloc, set, Kind::LinkAttrs, known)?;
-    let made = index_rows(alloc, set, kind, known, Links { rows, pairs })?;
+    let made = index_rows(alloc, set, kind, &known.ids, Links { rows, pairs })?;
     Ok(Some(made))
 }

@@ -10,8 +10,11 @@ ghost use Rattle.otap_spans.specs.Laws.{AreInKindOrder, ForProfileSpans, HasRowP
 ghost use Rattle.otap_spans.specs.Requests.{AreCleanSpans};
 ghost use Rattle.otap_spans.specs.Tables.{tables_of_spans};
 
-/// Law: the request that the tables of a request make means the same telemetry. Groups without items aren't in it, and the
-/// attributes may come in another order.
+/// Law: the request that the tables of a request make means the same telemetry: the same items in the same order, each with its
+/// resource and its scope, and with the same attributes in any order. How items are grouped isn't compared.
+///
+/// This law and those below whose clause begins with `ForProfile` are on requests that a program can hold, of the profile, and
+/// within the weight limit.
 pub fn tables_tell_the_same()
     ensures { ForProfileSpans (λ groups. Same (Traces groups) (Traces (rebuilt_spans groups))) }
 {}
@@ -37,7 +40,8 @@ pub fn each_span_has_a_row()
     ensures { (groups : List (ResourceGroup Span)) → HasRowPerSpan (tables_of_spans groups) groups }
 {}
 
-/// Law: the request that the tables of a request make weighs no more than the request.
-pub fn tables_are_light()
+/// Law: the request that the tables of a request make weighs no more than the request. The tables themselves may weigh far more,
+/// since each row has the texts of its resource and its scope: `table_weight` says how much.
+pub fn rebuilt_is_no_heavier()
     ensures { ForProfileSpans (λ groups. weight_of (Traces (rebuilt_spans groups)) ≤ weight_of (Traces groups)) }
 {}

@@ -1,5 +1,5 @@
 //! The request of the tables of a batch.
-ghost use Rattle.std.specs.Prelude.{◌≡◌, ◌≤◌, min, IfErr, IfOk, OnOk};
+ghost use Rattle.std.specs.Prelude.{◌≡◌, ◌≤◌, min, IfErr, IfOk, OnOk, All};
 ghost use Rattle.otlp_model.specs.declared.request.Signal.TheVariants as signal;
 ghost use Rattle.otlp_model.specs.Limits.{weight_limit, count_cap};
 ghost use Rattle.otlp_model.specs.Weight.{weight_of, weight_of_event, weight_of_link};
@@ -12,7 +12,7 @@ ghost use Rattle.otap_groups.specs.Beside.{FindAlike};
 ghost use Rattle.otap_groups.specs.Made.{groups_of};
 ghost use Rattle.otap_checks.specs.Refusing.{Nothing, RefusesCheck};
 ghost use Rattle.otap_checks.specs.Regrouping.{RefusesRegroup};
-ghost use Rattle.otap_checks.specs.Known.{KnowsAll};
+ghost use Rattle.otap_checks.specs.Known.{IsWeighed, KnowsAll};
 ghost use Rattle.otap_spans.specs.Requests.{AreCleanSpans, WrongSpans, regrouped_spans, regrouped_weight, span_events_in, span_links_in};
 
 use crate::below::{find_events, find_links};
@@ -20,7 +20,7 @@ use crate::reading::Spans;
 use otap_attrs::CheckRefusal;
 use otap_cells::{Kind, Rows, TableSet};
 use otap_checks::{
-    Grouped, KnownIds, PairRows, RegroupRefusal, checked_ids, find_pairs, front_of, groups_within,
+    Grouped, KnownRows, PairRows, RegroupRefusal, checked_rows, find_pairs, front_of, groups_within,
 };
 use otap_groups::{Lookup, Main};
 use otlp_model::{Event, Items, Link, ResourceGroup, Signal, Span};
@@ -36,7 +36,7 @@ pub fn check_rows<R: Rows>(alloc: Global, set: &TableSet<R>) -> Result<u64, Chec
     ensures weight { IfOk result (λ weight. weight ≡ min (regrouped_weight set.now) count_cap) }
     ensures refused { IfErr result (RefusesCheck (WrongSpans set.now)) }
 {
-    let known = checked_ids(alloc, set, Signal::Traces)?;
+    let known = checked_rows(alloc, set, Signal::Traces)?;
     let Some(rows) = set.get(Kind::Spans) else {
         return Ok(0);
     };
@@ -56,7 +56,7 @@ pub fn regroup<R: Rows>(alloc: Global, set: &TableSet<R>) -> Result<Grouped<Span
     ensures light { IfOk result (λ made. made.tree ≤ weight_limit) }
     ensures refused { IfErr result (RefusesRegroup (WrongSpans set.now) (regrouped_weight set.now)) }
 {
-    let known = checked_ids(alloc, set, Signal::Traces)?;
+    let known = checked_rows(alloc, set, Signal::Traces)?;
     let Some(rows) = set.get(Kind::Spans) else {
         return Ok(Grouped {
             groups: Items::new(alloc),
@@ -90,12 +90,13 @@ fn weight_with<'a, R: Rows, E: Lookup<Child = Event>, L: Lookup<Child = Link>>(
     alloc: Global,
     set: &'a TableSet<R>,
     rows: &'a R,
-    known: &'a KnownIds,
+    known: &'a KnownRows,
     events: E,
     links: L,
 ) -> Result<u64, AllocError>
     requires clean { AreCleanSpans set.now }
-    requires known { KnowsAll signal.Traces set.now known.now }
+    requires known { KnowsAll signal.Traces set.now known.now.ids }
+    requires weights { All (IsWeighed set.now) known.now.weights.items }
     requires table { table_named table.Spans set.now ≡ R.table rows.now }
     requires kind { (R.table rows.now).kind ≡ table.Spans }
     requires events { FindAlike (E.finds events) (span_events_in set.now) }
@@ -113,12 +114,13 @@ fn groups_with<'a, R: Rows, E: Lookup<Child = Event>, L: Lookup<Child = Link>>(
     alloc: Global,
     set: &'a TableSet<R>,
     rows: &'a R,
-    known: &'a KnownIds,
+    known: &'a KnownRows,
     events: E,
     links: L,
 ) -> Result<Grouped<Span>, RegroupRefusal>
     requires clean { AreCleanSpans set.now }
-    requires known { KnowsAll signal.Traces set.now known.now }
+    requires known { KnowsAll signal.Traces set.now known.now.ids }
+    requires weights { All (IsWeighed set.now) known.now.weights.items }
     requires table { table_named table.Spans set.now ≡ R.table rows.now }
     requires kind { (R.table rows.now).kind ≡ table.Spans }
     requires events { FindAlike (E.finds events) (span_events_in set.now) }
@@ -140,12 +142,13 @@ fn main_of<'a, R: Rows, E: Lookup<Child = Event>, L: Lookup<Child = Link>>(
     alloc: Global,
     set: &'a TableSet<R>,
     rows: &'a R,
-    known: &'a KnownIds,
+    known: &'a KnownRows,
     events: E,
     links: L,
 ) -> Result<SpanRows<'a, R, E, L>, AllocError>
     requires clean { AreCleanSpans set.now }
-    requires known { KnowsAll signal.Traces set.now known.now }
+    requires known { KnowsAll signal.Traces set.now known.now.ids }
+    requires weights { All (IsWeighed set.now) known.now.weights.items }
     requires table { table_named table.Spans set.now ≡ R.table rows.now }
     requires kind { (R.table rows.now).kind ≡ table.Spans }
     requires events { FindAlike (E.finds events) (span_events_in set.now) }
@@ -154,7 +157,7 @@ fn main_of<'a, R: Rows, E: Lookup<Child = Event>, L: Lookup<Child = Link>>(
     requires links_weighed { (link : Link) → L.weigh link ≡ weight_of_link link }
     ensures { IfOk result (λ main. groups_of main ≡ regrouped_spans set.now) }
 {
-    let front = front_of(rows, known);
+    let front = front_of(rows, &known.ids);
     let resources = find_pairs(alloc, set, Kind::ResourceAttrs, known)?;
     let scopes = find_pairs(alloc, set, Kind::ScopeAttrs, known)?;
     let pairs = find_pairs(alloc, set, Kind::SpanAttrs, known)?;

@@ -39,27 +39,6 @@ status_step old f = record {
   code = at 3 int32_in old.code f;
 }
 
-abbrev pub no_span : Span
-no_span = record {
-  trace_id = [];
-  span_id = [];
-  parent_span_id = [];
-  trace_state = [];
-  name = [];
-  kind = pos 0;
-  start = 0;
-  end = 0;
-  flags = 0;
-  pairs = [];
-  dropped_pairs = 0;
-  events = [];
-  dropped_events = 0;
-  links = [];
-  dropped_links = 0;
-  status_code = pos 0;
-  status_message = [];
-}
-
 abbrev pub span_step : Span → Entry → Span
 span_step old f = record {
   trace_id = at 1 bytes_in old.trace_id f;

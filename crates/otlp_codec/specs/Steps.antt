@@ -1,6 +1,6 @@
 -- One field after another, in the words of private contracts: how the messages are read in one pass over their fields. That this gives
 -- what they say is a law of each (`lemmas/Passed`, `lemmas/SpansPassed`, `lemmas/MetricsPassed`).
-use Rattle.std.specs.Prelude.{ℕ, zero, suc, List, [], pos}
+use Rattle.std.specs.Prelude.{ℕ, zero, suc, List, []}
 use Rattle.otlp_wire.specs.Wire as wire
 use Rattle.otlp_wire.specs.Wire.{FieldValue, Entry}
 use Rattle.otlp_messages.specs.Rows.{at, fixed64_in, fixed32_in, uint32_in, int32_in, bytes_in, embedded_in, many_in}
@@ -98,21 +98,6 @@ abbrev pub resource_group_step : {I : Type 0} → (List ℕ → I) → ResourceG
 resource_group_step item old f = record {
   resource = at 3 resource_url_in (at 1 resource_part_in old.resource f) f;
   scopes = at 2 (many_in (scope_group_in item)) old.scopes f;
-}
-
-abbrev pub no_log_record : LogRecord
-no_log_record = record {
-  time = 0;
-  observed = 0;
-  severity = pos 0;
-  severity_text = [];
-  body = Empty;
-  pairs = [];
-  dropped = 0;
-  flags = 0;
-  trace_id = [];
-  span_id = [];
-  event_name = [];
 }
 
 abbrev pub log_record_step : LogRecord → Entry → LogRecord

@@ -1,12 +1,13 @@
 //! Log records.
 
 ghost use Rattle.std.proofs.Common.{refl};
+ghost use Rattle.otlp_model.specs.Empty.{no_log_record};
 ghost use Rattle.otlp_model.specs.Real.{IsRealLogRecord};
 ghost use Rattle.otlp_messages.specs.declared.messages.Message.TheVariants as messages;
 ghost use Rattle.otlp_messages.specs.declared.messages.ItemKind.TheVariants as ofs;
 ghost use Rattle.otlp_codec.specs.Canonical.{canon_log_record};
 ghost use Rattle.otlp_codec.specs.Logs.{log_record_in};
-ghost use Rattle.otlp_codec.specs.Steps.{no_log_record, log_record_step};
+ghost use Rattle.otlp_codec.specs.Steps.{log_record_step};
 ghost use Rattle.otlp_codec.specs.lemmas.Passed.{log_record_passes};
 
 use crate::cells::{take_fixed32, take_fixed64, take_id, take_int32, take_text, take_uint32};
@@ -17,7 +18,7 @@ use crate::part::{ItemMessage, Submessage, take_pairs, take_value};
 use crate::refusal::ReadRefusal;
 use crate::writing::{Spelled, write_octets, write_one, write_pairs, write_text};
 use otlp_messages::{Backward, ItemKind, Message};
-use otlp_model::{Items, LogRecord, Octets, Text, Value, sum_capped};
+use otlp_model::{LogRecord, sum_capped};
 use otlp_wire::Field;
 use std::alloc::{AllocError, Global};
 
@@ -37,19 +38,7 @@ impl Submessage for LogRecord {
     }
 
     fn empty(alloc: Global) -> Self {
-        LogRecord {
-            time: 0,
-            observed: 0,
-            severity: 0,
-            severity_text: Text::new(alloc),
-            body: Value::Empty,
-            pairs: Items::new(alloc),
-            dropped: 0,
-            flags: 0,
-            trace_id: Octets::new(alloc),
-            span_id: Octets::new(alloc),
-            event_name: Text::new(alloc),
-        }
+        LogRecord::empty(alloc)
     }
 
     fn take(&mut self, alloc: Global, field: &Field<'_>) -> Result<(), ReadRefusal> {

@@ -4,6 +4,7 @@ ghost use Rattle.std.specs.Prelude.{◌≡◌, length, min, IsTrue, FitsSigned, 
 ghost use Rattle.std.specs.Int.{w32};
 ghost use Rattle.std.proofs.Common.{refl};
 ghost use Rattle.lists.specs.Bytes.{is_real_text};
+ghost use Rattle.otlp_model.specs.Empty.{no_span};
 ghost use Rattle.otlp_model.specs.Real.{IsRealEvent, IsRealLink, IsRealSpan};
 ghost use Rattle.otlp_messages.specs.Canon.{canon};
 ghost use Rattle.otlp_messages.specs.declared.messages.Message.TheVariants as messages;
@@ -16,7 +17,7 @@ ghost use Rattle.otlp_codec.specs.Limits.{level_limit};
 ghost use Rattle.otlp_model.specs.Limits.{count_cap};
 ghost use Rattle.otlp_codec.specs.PartRefusals.{RefusesValue};
 ghost use Rattle.otlp_codec.specs.Spans.{event_in, link_in, no_status, span_status_in, span_in};
-ghost use Rattle.otlp_codec.specs.SpanSteps.{no_event, event_step, no_link, link_step, status_step, no_span, span_step};
+ghost use Rattle.otlp_codec.specs.SpanSteps.{no_event, event_step, no_link, link_step, status_step, span_step};
 ghost use Rattle.otlp_codec.specs.SpanSpelling.{canon_event, canon_link, canon_span_status, canon_span, span_front, span_back};
 ghost use Rattle.otlp_codec.specs.lemmas.SpansPassed.{event_passes, link_passes, status_passes, span_passes};
 
@@ -170,25 +171,7 @@ impl Submessage for Span {
     }
 
     fn empty(alloc: Global) -> Self {
-        Span {
-            trace_id: Octets::new(alloc),
-            span_id: Octets::new(alloc),
-            parent_span_id: Octets::new(alloc),
-            trace_state: Text::new(alloc),
-            name: Text::new(alloc),
-            kind: 0,
-            start: 0,
-            end: 0,
-            flags: 0,
-            pairs: Items::new(alloc),
-            dropped_pairs: 0,
-            events: Items::new(alloc),
-            dropped_events: 0,
-            links: Items::new(alloc),
-            dropped_links: 0,
-            status_code: 0,
-            status_message: Text::new(alloc),
-        }
+        Span::empty(alloc)
     }
 
     fn take(&mut self, alloc: Global, field: &Field<'_>) -> Result<(), ReadRefusal> {

@@ -1,6 +1,10 @@
 ghost use Rattle.std.specs.Prelude.{◌≡◌, ◌<◌, IfOk};
 ghost use Rattle.otlp_load.specs.Load.{generated, requests_at_most};
 
+mod logs;
+mod metrics;
+mod spans;
+
 use crate::groups::groups;
 use otlp_model::{Request, Signal};
 use std::alloc::{AllocError, Global};

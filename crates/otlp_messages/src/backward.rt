@@ -188,7 +188,7 @@ fn grow_front(bytes: &mut Vec<u8>, start: usize, room: usize) -> Result<usize, A
     Ok(moved)
 }
 
-/// Copies the bytes between two offsets to the end, which lies behind them.
+/// Copies the bytes from offset `start` to offset `end` into the last bytes of the slice, which all come after `end`.
 fn copy_back(bytes: &mut [u8], start: usize, end: usize)
     requires order { start ≤ end }
     requires apart { end + (end - start) ≤ length bytes.old }
@@ -196,8 +196,8 @@ fn copy_back(bytes: &mut [u8], start: usize, end: usize)
     ensures len { length bytes.new ≡ length bytes.old }
 {
     let (front, back) = bytes.split_at_mut(end);
-    let (_between, place) = back.split_at_mut(back.len() - (end - start));
-    place.copy_from_slice(&front[start..]);
+    let (_between, last) = back.split_at_mut(back.len() - (end - start));
+    last.copy_from_slice(&front[start..]);
 }
 
 /// Moves the bytes from `start` on to the front.

@@ -9,6 +9,7 @@ ghost use Rattle.otlp_messages.specs.Inside.{ValueStands};
 
 use crate::messages::{Defect, FieldKind, Message};
 use crate::table::{MARKS, row_of};
+use lists::as_utf8;
 use otlp_wire::{Fields, Wire};
 
 /// Whether the bytes are the message, in one pass over them. `levels` says how many levels of members
@@ -75,5 +76,5 @@ fn check_part(kind: FieldKind, levels: u8, part: &[u8]) -> Result<(), Defect>
 pub fn is_text(part: &[u8]) -> bool
     ensures { IsTrue result ↔ IsUtf8 part.now }
 {
-    std::str::from_utf8(part).is_ok()
+    as_utf8(part).is_some()
 }

@@ -1,3 +1,5 @@
+ghost use Rattle.std.specs.Prelude.{◌≡◌};
+ghost use Rattle.otlp_model.specs.Empty.{no_log_record};
 ghost use Rattle.otlp_model.specs.Weight.{weight_of_log_record};
 ghost use Rattle.otlp_model.specs.Real.{IsRealLogRecord};
 ghost use Rattle.otlp_model.specs.Profile.{IsProfileLogRecord};
@@ -9,6 +11,7 @@ use crate::sameness::{Alike, same_pairs, same_value};
 use crate::value::{Pair, Value};
 use crate::weights::{HasWeight, pairs_weight, value_weight};
 use lists::{Items, Octets, Text};
+use std::alloc::Global;
 
 /// A log record (OTLP `LogRecord`). Times are nanoseconds since the Unix epoch.
 #[derive(Debug, Drop)]
@@ -24,6 +27,27 @@ pub struct LogRecord {
     pub trace_id: Octets,
     pub span_id: Octets,
     pub event_name: Text,
+}
+
+impl LogRecord {
+    /// A record of which nothing is set: numbers are 0; texts, lists and ids are empty, and so is the body.
+    pub fn empty(alloc: Global) -> LogRecord
+        ensures { result ≡ no_log_record }
+    {
+        LogRecord {
+            time: 0,
+            observed: 0,
+            severity: 0,
+            severity_text: Text::new(alloc),
+            body: Value::Empty,
+            pairs: Items::new(alloc),
+            dropped: 0,
+            flags: 0,
+            trace_id: Octets::new(alloc),
+            span_id: Octets::new(alloc),
+            event_name: Text::new(alloc),
+        }
+    }
 }
 
 impl HasWeight for LogRecord {

@@ -1,3 +1,5 @@
+ghost use Rattle.std.specs.Prelude.{◌≡◌};
+ghost use Rattle.otlp_model.specs.Empty.{no_span};
 ghost use Rattle.otlp_model.specs.Weight.{weight_of_event, weight_of_link, weight_of_span};
 ghost use Rattle.otlp_model.specs.Real.{IsRealEvent, IsRealLink, IsRealSpan};
 ghost use Rattle.otlp_model.specs.Profile.{IsProfileEvent, IsProfileLink, IsProfileSpan};
@@ -9,6 +11,7 @@ use crate::sameness::{Alike, each_same, same_pairs};
 use crate::value::Pair;
 use crate::weights::{HasWeight, PART_WEIGHT, pairs_weight, parts_weight};
 use lists::{Items, Octets, Text};
+use std::alloc::Global;
 
 /// A span (OTLP `Span`). Times are nanoseconds since the Unix epoch.
 #[derive(Debug, Drop)]
@@ -78,6 +81,33 @@ impl HasWeight for Link {
             self.trace_state.weight(),
             pairs_weight(self.pairs.as_slice()),
         ])
+    }
+}
+
+impl Span {
+    /// A span of which nothing is set: numbers are 0; texts, lists and ids are empty.
+    pub fn empty(alloc: Global) -> Span
+        ensures { result ≡ no_span }
+    {
+        Span {
+            trace_id: Octets::new(alloc),
+            span_id: Octets::new(alloc),
+            parent_span_id: Octets::new(alloc),
+            trace_state: Text::new(alloc),
+            name: Text::new(alloc),
+            kind: 0,
+            start: 0,
+            end: 0,
+            flags: 0,
+            pairs: Items::new(alloc),
+            dropped_pairs: 0,
+            events: Items::new(alloc),
+            dropped_events: 0,
+            links: Items::new(alloc),
+            dropped_links: 0,
+            status_code: 0,
+            status_message: Text::new(alloc),
+        }
     }
 }
 

@@ -1,4 +1,4 @@
-ghost use Rattle.std.specs.Prelude.{◌≡◌, ℕ, None};
+ghost use Rattle.std.specs.Prelude.{◌≡◌, ℕ, true, None};
 ghost use Rattle.std.specs.Option.{ForSome, option_copied};
 ghost use Rattle.arrow_arrays.specs.Views.{cell_seen};
 ghost use Rattle.otap_cells.specs.Cells.{seen};
@@ -69,6 +69,16 @@ impl<'v> ResolvedColumn<'v> {
             stored,
             whole: stored.is_whole(),
             dictionary: Some(dictionary),
+        }
+    }
+
+    /// Whether it is known that no row has a value, since the column is missing.
+    pub(crate) fn is_missing(&self) -> bool
+        ensures { result ≡ true → (row : ℕ) → resolved_value self.now row ≡ None }
+    {
+        match self.dictionary {
+            None => self.stored.has_no_rows(),
+            Some(_) => false,
         }
     }
 

@@ -8,8 +8,8 @@ use arrow_ipc::BatchView;
 use otap_cells::{Base, CellView, Coding, Kind, Rows, columns};
 use std::marker::Model;
 
-/// The most columns that a table has.
-pub(crate) const MAX_COLUMNS: usize = 25;
+/// Room for the columns of any table, and for some that are to come.
+pub(crate) const COLUMN_ROOM: usize = 32;
 
 /// The table of a record. It hands out parts of the record's bytes and of the reader's dictionaries, and takes no memory. A
 /// contract sees it as the table.
@@ -18,7 +18,7 @@ pub struct RowsView<'v> {
     reader: &'v Reader,
     batch: BatchView<'v>,
     /// The columns of the kind, found once for all rows.
-    columns: [ResolvedColumn<'v>; MAX_COLUMNS],
+    columns: [ResolvedColumn<'v>; COLUMN_ROOM],
 }
 
 impl<'v> Model for RowsView<'v> {
@@ -45,7 +45,7 @@ impl<'v> RowsView<'v> {
         requires sound { IsTable (table_of_batch reader.now.kind reader.now.substream batch) }
         ensures { result ≡ table_of_batch reader.now.kind reader.now.substream batch.entry }
     {
-        let mut found = [ResolvedColumn::missing(Base::Bool); MAX_COLUMNS];
+        let mut found = [ResolvedColumn::missing(Base::Bool); COLUMN_ROOM];
         'columns: for column in 0..columns(reader.kind()).len() {
             found[column] = reader.column(&batch, column as u32);
         }
@@ -90,6 +90,10 @@ impl<'v> Rows for RowsView<'v> {
     #[inline(always)]
     fn cell(&self, column: u32, row: u64) -> CellView<'_> {
         self.column(column).cell(row)
+    }
+
+    fn lacks(&self, column: u32) -> bool {
+        self.column(column).is_missing()
     }
 
     fn coding(&self, column: u32) -> Coding {

@@ -5,7 +5,7 @@ ghost use Rattle.otap_cells.specs.Columns.{base_at, width_of};
 ghost use Rattle.otap_columns.specs.Limits.{record_limit};
 ghost use Rattle.otap_columns.specs.WrittenPayloads.{schema_if};
 ghost use Rattle.otap_columns.specs.Schemas.{FormsFit, is_dictionary, schema_for, arrow_type_in};
-ghost use Rattle.otap_columns.specs.WrittenGroups.{forms_in};
+ghost use Rattle.otap_columns.specs.FormsIn.{forms_in};
 ghost use Rattle.otap_columns.specs.WrittenRecords.{AddsAtMost, AddsHead, AddsHeads, AddsMessages, CanSendColumn, IsRecordBy, from_in, head_most, heads_most, is_sent};
 ghost use Rattle.otap_columns.specs.Limits.{schema_most};
 ghost use Rattle.otap_columns.specs.WrittenRows.{HasValues};

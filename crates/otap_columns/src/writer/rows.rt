@@ -7,7 +7,8 @@ ghost use Rattle.arrow_ipc.specs.Written.{most_of_batch};
 ghost use Rattle.arrow_arrays.specs.Written.{struct_part};
 ghost use Rattle.otap_cells.specs.Columns.{width_of};
 ghost use Rattle.otap_columns.specs.BuiltCells.{GrowsBy, HasRoom, column_most, columns_most, group_most, group_parts, rows_most, with_part};
-ghost use Rattle.otap_columns.specs.WrittenGroups.{IsWithin, forms_in, group_in, member_in};
+ghost use Rattle.otap_cells.specs.StaticGroups.{IsWithin, group_in, member_in};
+ghost use Rattle.otap_columns.specs.FormsIn.{forms_in};
 ghost use Rattle.otap_columns.specs.WrittenBatches.{WritesRows};
 ghost use Rattle.otap_columns.specs.Schemas.{FormsFit, is_present, members_there, slots_in, slots_of_member, slots_under};
 ghost use Rattle.otap_columns.specs.WrittenRows.{HasValues, unseen};
@@ -15,11 +16,10 @@ ghost use Rattle.otap_columns.specs.BuiltRows.{AddsSlots, CanWrite, columns_in};
 
 use crate::forms::ColumnForm;
 use crate::writer::columns::{add_column, column_for, width_for};
-use crate::writer::groups::{Group, Member, groups};
 use crate::writer::schema::{form_of, is_present};
 use crate::writer::seen::SeenColumn;
 use arrow_ipc::BatchBuilder;
-use otap_cells::{LogicalTable, Rows, base_of};
+use otap_cells::{ColumnGroup, GroupMember, LogicalTable, Rows, base_of, column_groups};
 use otap_dicts::Ladder;
 use std::alloc::{AllocError, Global};
 
@@ -43,7 +43,7 @@ fn add_member(
     table: &LogicalTable,
     forms: &[ColumnForm],
     columns: &[SeenColumn],
-    member: &Member,
+    member: &GroupMember,
 ) -> Result<(), AllocError>
     requires column { member.now.column < width_of table.now.kind }
     requires can { CanWrite (forms_in forms.now) columns.now table.now }
@@ -86,7 +86,7 @@ fn add_members(
     table: &LogicalTable,
     forms: &[ColumnForm],
     columns: &[SeenColumn],
-    members: &[Member],
+    members: &[GroupMember],
 ) -> Result<(), AllocError>
     requires within { All (λ member. member.column < width_of table.now.kind) members.now }
     requires can { CanWrite (forms_in forms.now) columns.now table.now }
@@ -101,7 +101,7 @@ fn add_members(
 }
 
 /// Whether one of the columns is there.
-fn any_there(forms: &[ColumnForm], members: &[Member]) -> bool
+fn any_there(forms: &[ColumnForm], members: &[GroupMember]) -> bool
     ensures { result ≡ list_any (λ member. is_present (forms_in forms.now member.column)) members.now }
 {
     members
@@ -117,7 +117,7 @@ fn add_under(
     forms: &[ColumnForm],
     columns: &[SeenColumn],
     name: &str,
-    members: &[Member],
+    members: &[GroupMember],
 ) -> Result<(), AllocError>
     requires within { All (λ member. member.column < width_of table.now.kind) members.now }
     requires can { CanWrite (forms_in forms.now) columns.now table.now }
@@ -138,7 +138,7 @@ fn add_group(
     table: &LogicalTable,
     forms: &[ColumnForm],
     columns: &[SeenColumn],
-    group: &Group,
+    group: &ColumnGroup,
 ) -> Result<(), AllocError>
     requires within { IsWithin (width_of table.now.kind) group.now }
     requires can { CanWrite (forms_in forms.now) columns.now table.now }
@@ -147,8 +147,8 @@ fn add_group(
     ensures grows { OnOk result (GrowsBy (group_parts (group_in group.now)) (group_most table.now (group_in group.now)) batch.old batch.new) }
 {
     match *group {
-        Group::Alone(member) => add_member(alloc, batch, table, forms, columns, &member),
-        Group::Under(name, members) => {
+        ColumnGroup::Alone(member) => add_member(alloc, batch, table, forms, columns, &member),
+        ColumnGroup::Under(name, members) => {
             add_under(alloc, batch, table, forms, columns, name, members)
         }
     }
@@ -168,7 +168,7 @@ pub(crate) fn rows_of(
     ensures holds { IfOk result (WritesRows table.now.kind (forms_in forms.now) (columns_in columns.now) table.now) }
     ensures short { IfOk result (λ batch. most_of_batch batch ≤ rows_most table.now) }
 {
-    let groups = groups(table.kind());
+    let groups = column_groups(table.kind());
     let mut batch = BatchBuilder::new(alloc, table.rows());
     'groups: for group in groups {
         add_group(alloc, &mut batch, table, forms, columns, group)?;

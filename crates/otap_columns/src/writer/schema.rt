@@ -4,14 +4,14 @@ ghost use Rattle.std.specs.Prelude.{◌≡◌, ◌<◌, ◌++◌, ◌∷◌, [],
 ghost use Rattle.arrow_schema.specs.Branches as branches;
 ghost use Rattle.arrow_schema.specs.declared.spec.ArrowType.TheVariants as arrow;
 ghost use Rattle.otap_cells.specs.Columns.{width_of};
-ghost use Rattle.otap_columns.specs.Groups as group;
+ghost use Rattle.otap_cells.specs.Groups as group;
 ghost use Rattle.otap_columns.specs.Schemas.{branches_in, dict_for, encoding_for, encoding_of, is_present, item_in, leaf_in, members_there, schema_for, arrow_type_in};
-ghost use Rattle.otap_columns.specs.WrittenGroups.{IsWithin, forms_in, group_in, member_in};
+ghost use Rattle.otap_cells.specs.StaticGroups.{IsWithin, group_in, member_in};
+ghost use Rattle.otap_columns.specs.FormsIn.{forms_in};
 
 use crate::forms::ColumnForm;
-use crate::writer::groups::{Group, Member, groups};
 use arrow_schema::{ArrowType, DictSpec, Encoding, FieldList, FieldSpec, Name, SchemaSpec};
-use otap_cells::{Base, Coding, Kind, base_of};
+use otap_cells::{Base, Coding, ColumnGroup, GroupMember, Kind, base_of, column_groups};
 use std::alloc::{AllocError, Global};
 
 /// The schema of a table whose columns have these forms.
@@ -23,7 +23,7 @@ pub(crate) fn schema_of(
 ) -> Result<SchemaSpec, AllocError>
     ensures { IfOk result (λ schema. schema ≡ schema_for kind (forms_in forms.now)) }
 {
-    let groups = groups(kind);
+    let groups = column_groups(kind);
     let mut schema = SchemaSpec::new(alloc);
     'groups: for group in groups {
         add_group(alloc, &mut schema, kind, forms, group)?;
@@ -36,14 +36,14 @@ fn add_group(
     schema: &mut SchemaSpec,
     kind: Kind,
     forms: &[ColumnForm],
-    group: &Group,
+    group: &ColumnGroup,
 ) -> Result<(), AllocError>
     requires { IsWithin (width_of kind) group.now }
     ensures { OnOk result (schema.new ≡ schema.old ++ branches.branch_fields (branches_in kind (forms_in forms.now) (group_in group.now))) }
 {
     match *group {
-        Group::Alone(member) => add_member(alloc, schema, kind, forms, &member),
-        Group::Under(name, members) => add_struct(alloc, schema, kind, forms, name, members),
+        ColumnGroup::Alone(member) => add_member(alloc, schema, kind, forms, &member),
+        ColumnGroup::Under(name, members) => add_struct(alloc, schema, kind, forms, name, members),
     }
 }
 
@@ -52,7 +52,7 @@ fn add_member(
     schema: &mut SchemaSpec,
     kind: Kind,
     forms: &[ColumnForm],
-    member: &Member,
+    member: &GroupMember,
 ) -> Result<(), AllocError>
     requires { member.now.column < width_of kind }
     ensures { OnOk result (schema.new ≡ schema.old ++ branches.branch_fields (branches_in kind (forms_in forms.now) (group.Alone (member_in member.now)))) }
@@ -70,7 +70,7 @@ fn add_struct(
     kind: Kind,
     forms: &[ColumnForm],
     name: &str,
-    members: &[Member],
+    members: &[GroupMember],
 ) -> Result<(), AllocError>
     requires { All (λ member. member.column < width_of kind) members.now }
     ensures { OnOk result (schema.new ≡ schema.old ++ branches.branch_fields (branches_in kind (forms_in forms.now) (group.Under name.now (map member_in members.now)))) }
@@ -93,7 +93,7 @@ fn leaf_fields(
     alloc: Global,
     kind: Kind,
     forms: &[ColumnForm],
-    members: &[Member],
+    members: &[GroupMember],
 ) -> Result<FieldList<FieldSpec>, AllocError>
     requires { All (λ member. member.column < width_of kind) members.now }
     ensures { IfOk result (λ fields. fields ≡ map branches.leaf_field (map (leaf_in kind (forms_in forms.now)) (members_there (forms_in forms.now) (map member_in members.now)))) }
@@ -110,7 +110,7 @@ fn add_leaf(
     fields: &mut FieldList<FieldSpec>,
     kind: Kind,
     forms: &[ColumnForm],
-    member: &Member,
+    member: &GroupMember,
 ) -> Result<(), AllocError>
     requires { member.now.column < width_of kind }
     ensures { OnOk result (fields.new ≡ fields.old ++ map branches.leaf_field (map (leaf_in kind (forms_in forms.now)) (members_there (forms_in forms.now) (member_in member.now ∷ [])))) }
@@ -125,7 +125,7 @@ fn leaf_field(
     alloc: Global,
     kind: Kind,
     forms: &[ColumnForm],
-    member: &Member,
+    member: &GroupMember,
 ) -> Result<FieldSpec, AllocError>
     requires { member.now.column < width_of kind }
     ensures { IfOk result (λ field. field ≡ branches.leaf_field (leaf_in kind (forms_in forms.now) (member_in member.now))) }

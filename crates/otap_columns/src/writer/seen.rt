@@ -8,7 +8,7 @@ ghost use Rattle.otap_cells.specs.Tables.{Table, coding_in, column_in};
 ghost use Rattle.otap_dicts.specs.declared.form.Form.TheVariants.{Plain};
 ghost use Rattle.otap_dicts.specs.Ladders.{is_dictionary, is_plain};
 ghost use Rattle.otap_columns.specs.declared.forms.ColumnForm.TheVariants as form;
-ghost use Rattle.otap_columns.specs.Observed.{bytes_for, form_at, has_wide_id, is_main, is_own_id, is_wide, of_ladder};
+ghost use Rattle.otap_columns.specs.Observed.{bytes_for, form_at, has_wide_id, is_own_id, is_wide, of_ladder};
 ghost use Rattle.otap_columns.specs.Seen.{IsSeenAfter, may_widen};
 ghost use Rattle.otap_columns.specs.SeenInside.{SeesTable, filled_up, form_kept, id_form_kept, is_absent, observed_if, places_of_cells};
 ghost use Rattle.otap_columns.specs.WrittenCells.{place_among};
@@ -17,7 +17,7 @@ ghost use Rattle.otap_columns.specs.BuiltCells.{shown_bytes};
 use crate::forms::ColumnForm;
 use crate::writer::cells::{CellBytes, bytes_for, is_same, set_rows, unset_rows};
 use crate::writer::ids::has_wide_id;
-use otap_cells::{Base, CellView, Kind, LogicalTable, Rows, base_of, columns};
+use otap_cells::{Base, CellView, Kind, LogicalTable, Rows, base_of, columns, is_main};
 use otap_dicts::laws::{a_value_again_changes_nothing, places_stay};
 use otap_dicts::{Form, Ladder};
 use std::alloc::{AllocError, Global};
@@ -159,12 +159,6 @@ fn is_own_id(kind: Kind, column: u32) -> bool
     ensures { result ≡ is_own_id kind column }
 {
     is_main(kind) && columns(kind)[column as usize].name == "id"
-}
-
-fn is_main(kind: Kind) -> bool
-    ensures { result ≡ is_main kind }
-{
-    matches!(kind, Kind::Metrics | Kind::Logs | Kind::Spans)
 }
 
 /// Whether the ids of a column become wide: one of them needs more than 16 bits. Those that are always wide aren't looked at.

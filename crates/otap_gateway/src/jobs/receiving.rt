@@ -13,7 +13,7 @@ use crate::jobs::decode::decode;
 use crate::jobs::job::Job;
 use crate::jobs::replay::replay;
 use crate::jobs::reply::Reply;
-use crate::jobs::room::Room;
+use crate::jobs::spare::Spare;
 use crate::jobs::status::status_of;
 use crate::texts::causes::cause_name;
 use crate::texts::lines::refused_line;
@@ -27,7 +27,7 @@ use std::alloc::{AllocError, Global};
 pub(crate) struct ReceiverJob {
     text: ReceiverText,
     receiver: Receiver,
-    room: Room,
+    spare: Spare,
 }
 
 impl ReceiverJob {
@@ -43,7 +43,7 @@ impl ReceiverJob {
         Ok(ReceiverJob {
             text,
             receiver,
-            room: Room::new(),
+            spare: Spare::new(),
         })
     }
 }
@@ -55,11 +55,13 @@ impl Job for ReceiverJob {
 
     fn step(&mut self, alloc: Global, number: u64, frame: &Frame<'_>) -> Result<Reply, AllocError> {
         let taken = self.receiver.take(frame)?;
-        reply_of(self.text, alloc, number, taken, &mut self.room)
+        reply_of(self.text, alloc, number, taken, &mut self.spare)
     }
 
     fn take_back(&mut self, reply: Reply) {
-        self.room.keep(reply);
+        if matches!(self.text, ReceiverText::Decode) {
+            self.spare.keep(reply);
+        }
     }
 }
 
@@ -69,13 +71,13 @@ fn reply_of(
     alloc: Global,
     number: u64,
     taken: Taken,
-    room: &mut Room,
+    spare: &mut Spare,
 ) -> Result<Reply, AllocError>
     requires { HasLightRequest taken }
     ensures { IfOk result (λ reply. reply ≡ text_of text number taken) }
 {
     match text {
-        ReceiverText::Decode => decode(alloc, number, taken, room),
+        ReceiverText::Decode => decode(alloc, number, taken, spare),
         ReceiverText::Status => status_of(alloc, number, taken),
         ReceiverText::Replay => replay(alloc, number, taken),
     }

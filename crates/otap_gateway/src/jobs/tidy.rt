@@ -7,17 +7,17 @@ ghost use Rattle.otap_gateway.specs.Tidying.{TidiesFrame, TidiesMessage, tidied}
 use crate::jobs::job::Job;
 use crate::jobs::refused_requests::{refusal_name, refused};
 use crate::jobs::reply::Reply;
-use crate::jobs::room::Room;
+use crate::jobs::spare::Spare;
 use otap_capture::{FRAME_HEAD, Frame};
 use otlp_codec::{put_request, read_request};
 use otlp_model::{MAX_ITEMS, MAX_TREE_WEIGHT, Request, Signal, items, weight};
 use std::alloc::{AllocError, Global};
 
-/// The job `tidy` of a signal. It takes each frame by itself, and writes the next reply in the memory of the last.
+/// The job `tidy` of a signal. It takes each frame by itself, and writes each request into the memory of an earlier reply.
 #[derive(Drop)]
 pub(crate) struct TidyJob {
     signal: Signal,
-    room: Room,
+    spare: Spare,
 }
 
 impl TidyJob {
@@ -26,7 +26,7 @@ impl TidyJob {
     {
         TidyJob {
             signal,
-            room: Room::new(),
+            spare: Spare::new(),
         }
     }
 }
@@ -37,11 +37,11 @@ impl Job for TidyJob {
     ghost stands = { λ s frames replies. Unit {0} };
 
     fn step(&mut self, alloc: Global, number: u64, frame: &Frame<'_>) -> Result<Reply, AllocError> {
-        tidy_frame(alloc, self.signal, number, frame, &mut self.room)
+        tidy_frame(alloc, self.signal, number, frame, &mut self.spare)
     }
 
     fn take_back(&mut self, reply: Reply) {
-        self.room.keep(reply);
+        self.spare.keep(reply);
     }
 }
 
@@ -50,12 +50,12 @@ fn tidy_frame(
     signal: Signal,
     number: u64,
     frame: &Frame<'_>,
-    room: &mut Room,
+    spare: &mut Spare,
 ) -> Result<Reply, AllocError>
     ensures { IfOk result (TidiesFrame signal number (frame_of frame.now)) }
 {
     match frame {
-        Frame::Message(bytes) => tidy_message(alloc, signal, number, bytes, room),
+        Frame::Message(bytes) => tidy_message(alloc, signal, number, bytes, spare),
         Frame::Packed => refused(alloc, number, "Compressed"),
         Frame::Reset => Reply::reset(alloc),
     }
@@ -66,12 +66,12 @@ fn tidy_message(
     signal: Signal,
     number: u64,
     bytes: &[u8],
-    room: &mut Room,
+    spare: &mut Spare,
 ) -> Result<Reply, AllocError>
     ensures { IfOk result (TidiesMessage signal number bytes.now) }
 {
     match read_request(alloc, signal, bytes) {
-        Ok(request) => tidy_request(alloc, number, &request, bytes.len(), room),
+        Ok(request) => tidy_request(alloc, number, &request, bytes.len(), spare),
         Err(refusal) => refused(alloc, number, refusal_name(refusal)?),
     }
 }
@@ -82,7 +82,7 @@ fn tidy_request(
     number: u64,
     request: &Request,
     len: usize,
-    room: &mut Room,
+    spare: &mut Spare,
 ) -> Result<Reply, AllocError>
     ensures { IfOk result (λ reply. reply ≡ tidied number request.now) }
 {
@@ -92,7 +92,7 @@ fn tidy_request(
     if weight(request) > MAX_TREE_WEIGHT {
         return refused(alloc, number, "TooHeavy");
     }
-    let mut spelling = room.take(alloc);
+    let mut spelling = spare.take(alloc);
     spelling.reserve(len.saturating_add(FRAME_HEAD))?;
     put_request(&mut spelling, request)?;
     Reply::message(alloc, spelling)

@@ -7,10 +7,11 @@ use Rattle.otlp_wire.specs.Fields.{fields_of}
 use Rattle.otlp_wire.proofs.FieldsOf.{fields_of_nothing}
 use Rattle.otlp_messages.specs.Rows.{only, said, at, fixed64_in, fixed32_in, uint32_in, int32_in, bytes_in, embedded_in, many_in}
 use Rattle.otlp_messages.proofs.Parts.{part_of}
+use Rattle.otlp_model.specs.Empty.{no_log_record}
 use Rattle.otlp_codec.specs.Groups.{value_in, pair_in, resource_in, scope_in, scope_group_in, resource_group_in, groups_in}
 use Rattle.otlp_codec.specs.Logs.{log_record_in}
 use Rattle.otlp_codec.specs.Steps.{no_resource, resource_step, no_scope, scope_step, scope_part_in, scope_url_in, no_scope_group, scope_group_step}
-use Rattle.otlp_codec.specs.Steps.{resource_part_in, resource_url_in, no_resource_group, resource_group_step, no_log_record, log_record_step, request_step}
+use Rattle.otlp_codec.specs.Steps.{resource_part_in, resource_url_in, no_resource_group, resource_group_step, log_record_step, request_step}
 
 -- a part that changes by itself, whatever else changes
 pub goes_by : {R A : Type 0} (step : R → Entry → R) (get : R → A) (by : A → Entry → A) → ((r : R) (f : Entry) → get (step r f) ≡ by (get r) f)

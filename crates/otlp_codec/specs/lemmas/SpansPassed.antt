@@ -4,9 +4,10 @@ use Rattle.std.specs.Prelude.{fold}
 use Rattle.otlp_wire.specs.Fields.{fields_of}
 use Rattle.otlp_messages.specs.Rows.{fixed64_in, fixed32_in, uint32_in, int32_in, bytes_in, embedded_in, many_in}
 use Rattle.otlp_messages.proofs.Parts.{part_of}
+use Rattle.otlp_model.specs.Empty.{no_span}
 use Rattle.otlp_codec.specs.Groups.{pair_in}
 use Rattle.otlp_codec.specs.Spans.{event_in, link_in, no_status, span_status_in, span_in, span_status_of}
-use Rattle.otlp_codec.specs.SpanSteps.{no_event, event_step, no_link, link_step, status_step, no_span, span_step}
+use Rattle.otlp_codec.specs.SpanSteps.{no_event, event_step, no_link, link_step, status_step, span_step}
 
 pub event_passes : (bytes : List ℕ) → fold event_step no_event (fields_of bytes) ≡ event_in bytes
 unfolding event_in

@@ -5,7 +5,7 @@ pub check_rules-requires-clause-fit : goal.check_rules-requires-clause-fit
 check_rules-requires-clause-fit g c = rules_fit c.args.signal c.rules_of.result.now c.rules_of.ensures
 
 pub check_rules-requires-clause-given : goal.check_rules-requires-clause-given
-check_rules-requires-clause-given g c = rules_given c.args.signal c.args.set.now c.args.known.now c.requires.ids
+check_rules-requires-clause-given g c = rules_given c.args.signal c.args.set.now c.args.known.now.ids c.requires.ids
     c.requires.known c.rules_of.result.now c.rules_of.ensures
 
 pub returns-in-Ok-clause-clean : goal.returns-in-Ok-clause-clean

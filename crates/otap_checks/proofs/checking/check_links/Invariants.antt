@@ -1,6 +1,6 @@
 use Rattle.std.proofs.Common.{ℕ, ◌<◌, get_or}
 use Rattle.otap_attrs.specs.declared.refusal.RowRefusal.{RowRefusal}
-use Rattle.otap_checks.specs.declared.links.TableLink.{TableLink}
+use Rattle.otap_checks.specs.declared.signals.TableLink.{TableLink}
 use Rattle.otap_checks.specs.Inside.{KnownFault}
 use Rattle.otap_checks.proofs.checking.check_links.Given as goal
 

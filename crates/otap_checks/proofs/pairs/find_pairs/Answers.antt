@@ -14,13 +14,13 @@ returns-in_default g c = λ parent.
 pub new-requires : goal.new-requires
 new-requires g c =
     let t = g.R.Rows.table c.in-Some.rows.now in
-    let own : HasIds t 0 c.of.result.now = rw c.of.ensures (subst (λ t. HasIds t 0 (ids_named c.args.kind 0 c.args.known.now)) c.in-Some.ensures.table
+    let own : HasIds t 0 c.of.result.now = rw c.of.ensures (subst (λ t. HasIds t 0 (ids_named c.args.kind 0 c.args.known.now.ids)) c.in-Some.ensures.table
     (c.requires.known 0 (attribute_id c.args.kind c.requires.kind)).are) in
     ids_long t 0 c.of.result.now own ∙ sym (length-map t.rows (drop 1))
 
 pub returns : goal.returns
 returns g c = λ parent.
     let t = g.R.Rows.table c.in-Some.rows.now in
-    let own : HasIds t 0 c.of.result.now = rw c.of.ensures (subst (λ t. HasIds t 0 (ids_named c.args.kind 0 c.args.known.now)) c.in-Some.ensures.table
+    let own : HasIds t 0 c.of.result.now = rw c.of.ensures (subst (λ t. HasIds t 0 (ids_named c.args.kind 0 c.args.known.now.ids)) c.in-Some.ensures.table
     (c.requires.known 0 (attribute_id c.args.kind c.requires.kind)).are) in
     c.in_ok-made.ensures parent ∙ pairs_are t c.of.result.now parent own ∙ ap (λ t. pairs_in t parent) (sym c.in-Some.ensures.table)

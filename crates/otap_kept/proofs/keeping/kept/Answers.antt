@@ -4,7 +4,7 @@ use Rattle.std.specs.List.{flat_map}
 use Rattle.otap_cells.specs.Named.{table_named}
 use Rattle.otap_attrs.specs.Tables.{beside_kind, where_rows}
 use Rattle.otap_checks.specs.declared.known.ColumnIds.{ColumnIds}
-use Rattle.otap_checks.specs.declared.links.TableLink.{TableLink}
+use Rattle.otap_checks.specs.declared.signals.TableLink.{TableLink}
 use Rattle.otap_checks.specs.Known.{Knows}
 use Rattle.otap_kept.specs.Kept.{kept_below}
 use Rattle.otap_kept.specs.Texts.{text_pair}

@@ -20,27 +20,27 @@ front_of-front-requires-clause-main g c = rw c.requires.kind logs_are_main
 pub front_of-front-requires-clause-known : goal.front_of-front-requires-clause-known
 unfolding links_of
 front_of-front-requires-clause-known g c =
-    rw c.requires.kind (subst (λ t. Knows t table.Logs c.args.known.now) c.requires.table
-    (known_at signal.Logs c.args.set.now c.args.known.now c.requires.known 0 table.Logs (omega arith) refl))
+    rw c.requires.kind (subst (λ t. Knows t table.Logs c.args.known.now.ids) c.requires.table
+    (known_at signal.Logs c.args.set.now c.args.known.now.ids c.requires.known 0 table.Logs (omega arith) refl))
 
 pub find_pairs-requires-clause-known : goal.find_pairs-requires-clause-known
 unfolding links_of
-find_pairs-requires-clause-known g c = known_at signal.Logs c.args.set.now c.args.known.now c.requires.known 1 table.ResourceAttrs (omega arith) refl
+find_pairs-requires-clause-known g c = known_at signal.Logs c.args.set.now c.args.known.now.ids c.requires.known 1 table.ResourceAttrs (omega arith) refl
 
 pub find_pairs-requires-2-clause-known : goal.find_pairs-requires-2-clause-known
 unfolding links_of
-find_pairs-requires-2-clause-known g c = known_at signal.Logs c.args.set.now c.args.known.now c.requires.known 2 table.ScopeAttrs (omega arith) refl
+find_pairs-requires-2-clause-known g c = known_at signal.Logs c.args.set.now c.args.known.now.ids c.requires.known 2 table.ScopeAttrs (omega arith) refl
 
 pub find_pairs-requires-3-clause-known : goal.find_pairs-requires-3-clause-known
 unfolding links_of
-find_pairs-requires-3-clause-known g c = known_at signal.Logs c.args.set.now c.args.known.now c.requires.known 3 table.LogAttrs (omega arith) refl
+find_pairs-requires-3-clause-known g c = known_at signal.Logs c.args.set.now c.args.known.now.ids c.requires.known 3 table.LogAttrs (omega arith) refl
 
 pub invariant_of-result-2-clause-agree : goal.invariant_of-result-2-clause-agree
 unfolding links_of rules_of
 invariant_of-result-2-clause-agree g c =
     let tables = c.args.set.now in
-    let known = known_at signal.Logs tables c.args.known.now c.requires.known 0 table.Logs (omega arith) refl in
-    λ unlike. rows_agree signal.Logs tables c.args.known.now table.Logs c.requires.clean (4, omega arith, refl) logs_are_main known
+    let known = known_at signal.Logs tables c.args.known.now.ids c.requires.known 0 table.Logs (omega arith) refl in
+    λ unlike. rows_agree signal.Logs tables c.args.known.now.ids table.Logs c.requires.clean (4, omega arith, refl) logs_are_main known
     (subst Disagree (c.front_of-front.ensures.rows ∙ ap main_rows_in (sym c.requires.table)) unlike)
 
 pub returns : goal.returns

@@ -20,16 +20,16 @@ front_of-front-requires-clause-main g c = rw c.requires.kind metrics_are_main
 pub front_of-front-requires-clause-known : goal.front_of-front-requires-clause-known
 unfolding links_of
 front_of-front-requires-clause-known g c =
-    rw c.requires.kind (subst (λ t. Knows t table.Metrics c.args.known.now) c.requires.table
-    (known_at signal.Metrics c.args.set.now c.args.known.now c.requires.known 0 table.Metrics (omega arith) refl))
+    rw c.requires.kind (subst (λ t. Knows t table.Metrics c.args.known.now.ids) c.requires.table
+    (known_at signal.Metrics c.args.set.now c.args.known.now.ids c.requires.known 0 table.Metrics (omega arith) refl))
 
 pub find_pairs-requires-clause-known : goal.find_pairs-requires-clause-known
 unfolding links_of
-find_pairs-requires-clause-known g c = known_at signal.Metrics c.args.set.now c.args.known.now c.requires.known 1 table.ResourceAttrs (omega arith) refl
+find_pairs-requires-clause-known g c = known_at signal.Metrics c.args.set.now c.args.known.now.ids c.requires.known 1 table.ResourceAttrs (omega arith) refl
 
 pub find_pairs-requires-2-clause-known : goal.find_pairs-requires-2-clause-known
 unfolding links_of
-find_pairs-requires-2-clause-known g c = known_at signal.Metrics c.args.set.now c.args.known.now c.requires.known 2 table.ScopeAttrs (omega arith) refl
+find_pairs-requires-2-clause-known g c = known_at signal.Metrics c.args.set.now c.args.known.now.ids c.requires.known 2 table.ScopeAttrs (omega arith) refl
 
 pub invariant_of-result : goal.invariant_of-result
 invariant_of-result g c = record {
@@ -43,8 +43,8 @@ pub invariant_of-result-2-clause-agree : goal.invariant_of-result-2-clause-agree
 unfolding links_of rules_of
 invariant_of-result-2-clause-agree g c =
     let tables = c.args.set.now in
-    let known = known_at signal.Metrics tables c.args.known.now c.requires.known 0 table.Metrics (omega arith) refl in
-    λ unlike. rows_agree signal.Metrics tables c.args.known.now table.Metrics c.requires.clean (15, omega arith, refl) metrics_are_main known
+    let known = known_at signal.Metrics tables c.args.known.now.ids c.requires.known 0 table.Metrics (omega arith) refl in
+    λ unlike. rows_agree signal.Metrics tables c.args.known.now.ids table.Metrics c.requires.clean (15, omega arith, refl) metrics_are_main known
     (subst Disagree (c.front_of-front.ensures.rows ∙ ap main_rows_in (sym c.requires.table)) unlike)
 
 pub returns : goal.returns

@@ -14,8 +14,8 @@ find_exemplars-requires-clause-columns g c = refl
 
 pub find_exemplars-requires-clause-known : goal.find_exemplars-requires-clause-known
 unfolding links_of
-find_exemplars-requires-clause-known g c = known_at signal.Metrics c.args.set.now c.args.known.now c.requires 10 table.HistExemplars (omega arith) refl
+find_exemplars-requires-clause-known g c = known_at signal.Metrics c.args.set.now c.args.known.now.ids c.requires.known 10 table.HistExemplars (omega arith) refl
 
 pub find_exemplars-requires-clause-pairs : goal.find_exemplars-requires-clause-pairs
 unfolding links_of
-find_exemplars-requires-clause-pairs g c = known_at signal.Metrics c.args.set.now c.args.known.now c.requires 12 table.HistExemplarAttrs (omega arith) refl
+find_exemplars-requires-clause-pairs g c = known_at signal.Metrics c.args.set.now c.args.known.now.ids c.requires.known 12 table.HistExemplarAttrs (omega arith) refl

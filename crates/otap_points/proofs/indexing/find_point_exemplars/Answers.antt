@@ -14,8 +14,8 @@ find_exemplars-requires-clause-columns g c = refl
 
 pub find_exemplars-requires-clause-known : goal.find_exemplars-requires-clause-known
 unfolding links_of
-find_exemplars-requires-clause-known g c = known_at signal.Metrics c.args.set.now c.args.known.now c.requires 9 table.NumberExemplars (omega arith) refl
+find_exemplars-requires-clause-known g c = known_at signal.Metrics c.args.set.now c.args.known.now.ids c.requires.known 9 table.NumberExemplars (omega arith) refl
 
 pub find_exemplars-requires-clause-pairs : goal.find_exemplars-requires-clause-pairs
 unfolding links_of
-find_exemplars-requires-clause-pairs g c = known_at signal.Metrics c.args.set.now c.args.known.now c.requires 11 table.NumberExemplarAttrs (omega arith) refl
+find_exemplars-requires-clause-pairs g c = known_at signal.Metrics c.args.set.now c.args.known.now.ids c.requires.known 11 table.NumberExemplarAttrs (omega arith) refl

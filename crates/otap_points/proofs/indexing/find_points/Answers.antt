@@ -21,14 +21,14 @@ returns-in_default g c = λ parent.
 
 pub find_pairs-requires-clause-known : goal.find_pairs-requires-clause-known
 unfolding links_of
-find_pairs-requires-clause-known g c = known_at signal.Metrics c.args.set.now c.args.known.now c.requires.known 6 table.NumberPointAttrs (omega arith) refl
+find_pairs-requires-clause-known g c = known_at signal.Metrics c.args.set.now c.args.known.now.ids c.requires.known 6 table.NumberPointAttrs (omega arith) refl
 
 pub index_rows-requires-clause-part : goal.index_rows-requires-clause-part
 index_rows-requires-clause-part g c = points_are_parts
 
 pub index_rows-requires-clause-known : goal.index_rows-requires-clause-known
 unfolding links_of
-index_rows-requires-clause-known g c = known_at signal.Metrics c.args.set.now c.args.known.now c.requires.known 3 table.NumberPoints (omega arith) refl
+index_rows-requires-clause-known g c = known_at signal.Metrics c.args.set.now c.args.known.now.ids c.requires.known 3 table.NumberPoints (omega arith) refl
 
 pub index_rows-requires-clause-rows : goal.index_rows-requires-clause-rows
 index_rows-requires-clause-rows g c = ap (λ (t : Table). map (drop 2) t.rows) (sym c.in-Some.ensures.table)

@@ -20,14 +20,14 @@ returns-in_default g c = λ parent.
 
 pub find_pairs-requires-clause-known : goal.find_pairs-requires-clause-known
 unfolding links_of
-find_pairs-requires-clause-known g c = known_at signal.Traces c.args.set.now c.args.known.now c.requires 6 table.EventAttrs (omega arith) refl
+find_pairs-requires-clause-known g c = known_at signal.Traces c.args.set.now c.args.known.now.ids c.requires.known 6 table.EventAttrs (omega arith) refl
 
 pub index_rows-requires-clause-part : goal.index_rows-requires-clause-part
 index_rows-requires-clause-part g c = events_front
 
 pub index_rows-requires-clause-known : goal.index_rows-requires-clause-known
 unfolding links_of
-index_rows-requires-clause-known g c = known_at signal.Traces c.args.set.now c.args.known.now c.requires 4 table.SpanEvents (omega arith) refl
+index_rows-requires-clause-known g c = known_at signal.Traces c.args.set.now c.args.known.now.ids c.requires.known 4 table.SpanEvents (omega arith) refl
 
 pub index_rows-requires-clause-rows : goal.index_rows-requires-clause-rows
 index_rows-requires-clause-rows g c = ap (λ (t : Table). map (drop 2) t.rows) (sym c.in-Some.ensures.table)

@@ -20,14 +20,14 @@ returns-in_default g c = λ parent.
 
 pub find_pairs-requires-clause-known : goal.find_pairs-requires-clause-known
 unfolding links_of
-find_pairs-requires-clause-known g c = known_at signal.Traces c.args.set.now c.args.known.now c.requires 7 table.LinkAttrs (omega arith) refl
+find_pairs-requires-clause-known g c = known_at signal.Traces c.args.set.now c.args.known.now.ids c.requires.known 7 table.LinkAttrs (omega arith) refl
 
 pub index_rows-requires-clause-part : goal.index_rows-requires-clause-part
 index_rows-requires-clause-part g c = links_front
 
 pub index_rows-requires-clause-known : goal.index_rows-requires-clause-known
 unfolding links_of
-index_rows-requires-clause-known g c = known_at signal.Traces c.args.set.now c.args.known.now c.requires 5 table.SpanLinks (omega arith) refl
+index_rows-requires-clause-known g c = known_at signal.Traces c.args.set.now c.args.known.now.ids c.requires.known 5 table.SpanLinks (omega arith) refl
 
 pub index_rows-requires-clause-rows : goal.index_rows-requires-clause-rows
 index_rows-requires-clause-rows g c = ap (λ (t : Table). map (drop 2) t.rows) (sym c.in-Some.ensures.table)

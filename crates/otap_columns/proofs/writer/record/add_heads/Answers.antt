@@ -2,7 +2,7 @@ use Rattle.std.proofs.Common.{◌<◌, sym, ap, subst, arith}
 use Rattle.otap_cells.specs.Columns.{base_at, width_of}
 use Rattle.otap_dicts.specs.Ladders.{LadderIn}
 use Rattle.otap_columns.specs.declared.forms.ColumnForm.{ColumnForm}
-use Rattle.otap_columns.specs.WrittenGroups.{forms_in}
+use Rattle.otap_columns.specs.FormsIn.{forms_in}
 use Rattle.otap_columns.specs.WrittenRecords.{AddsAtMost, from_in, head_most}
 use Rattle.otap_columns.specs.BuiltRows.{columns_in}
 use Rattle.otap_columns.proofs.RecordAppended.{heads_none, heads_more, head_as, send_as}

@@ -1,4 +1,4 @@
-use Rattle.otap_columns.specs.WrittenGroups.{forms_in}
+use Rattle.otap_columns.specs.FormsIn.{forms_in}
 use Rattle.otap_columns.specs.WrittenRecords.{AddsAtMost, AddsHeads, heads_most}
 use Rattle.otap_columns.specs.BuiltRows.{columns_in}
 use Rattle.otap_columns.proofs.writer.record.add_heads.Given as goal

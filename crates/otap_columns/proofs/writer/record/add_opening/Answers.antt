@@ -5,7 +5,7 @@ use Rattle.arrow_schema.specs.Trees.{count_of}
 use Rattle.arrow_schema.specs.Writing.{names_of, widths_fit, encodings_named}
 use Rattle.arrow_schema.specs.declared.spec.FieldSpec.{FieldSpec}
 use Rattle.otap_columns.specs.Schemas.{schema_for}
-use Rattle.otap_columns.specs.WrittenGroups.{forms_in}
+use Rattle.otap_columns.specs.FormsIn.{forms_in}
 use Rattle.otap_columns.proofs.Keeping.{schema_readable}
 use Rattle.otap_columns.proofs.NamesShort.{names_short, all_named}
 use Rattle.otap_columns.proofs.RecordAppended.{opening_adds}

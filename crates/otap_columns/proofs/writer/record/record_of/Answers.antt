@@ -4,7 +4,7 @@ use Rattle.otap_cells.specs.declared.payload.Kind.{Kind}
 use Rattle.otap_cells.specs.Columns.{width_of}
 use Rattle.otap_columns.specs.WrittenPayloads.{schema_if}
 use Rattle.otap_columns.specs.Schemas.{schema_for}
-use Rattle.otap_columns.specs.WrittenGroups.{forms_in}
+use Rattle.otap_columns.specs.FormsIn.{forms_in}
 use Rattle.otap_columns.specs.WrittenRecords.{AddsAtMost, AddsHeads, AddsMessages, heads_most}
 use Rattle.otap_columns.specs.Limits.{schema_most}
 use Rattle.otap_columns.specs.BuiltRows.{columns_in}

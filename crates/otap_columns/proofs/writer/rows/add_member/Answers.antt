@@ -9,7 +9,8 @@ use Rattle.otap_columns.specs.SeenInside.{filled_up, places_of_cells}
 use Rattle.otap_columns.specs.Schemas.{is_dictionary, is_present}
 use Rattle.otap_columns.specs.WrittenCells.{stored_column}
 use Rattle.otap_columns.specs.BuiltCells.{column_most, width_for}
-use Rattle.otap_columns.specs.WrittenGroups.{forms_in, member_in}
+use Rattle.otap_cells.specs.StaticGroups.{member_in}
+use Rattle.otap_columns.specs.FormsIn.{forms_in}
 use Rattle.otap_columns.specs.BuiltRows.{columns_in}
 use Rattle.otap_columns.proofs.BatchGrown.{member_grows, room_less, sizes}
 use Rattle.otap_columns.proofs.ColumnsShort.{column_short}

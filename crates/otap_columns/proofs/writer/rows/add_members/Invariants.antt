@@ -1,7 +1,7 @@
 use Rattle.std.proofs.Common.{take}
 use Rattle.std.specs.Prelude.{sum_by}
 use Rattle.otap_columns.specs.BuiltCells.{GrowsBy, column_most}
-use Rattle.otap_columns.specs.WrittenGroups.{forms_in}
+use Rattle.otap_columns.specs.FormsIn.{forms_in}
 use Rattle.otap_columns.specs.BuiltRows.{AddsSlots, columns_in}
 use Rattle.otap_columns.proofs.RowsAdded.{member_slots}
 use Rattle.otap_columns.proofs.writer.rows.add_members.Given as goal

@@ -1,7 +1,8 @@
 use Rattle.std.proofs.Common.{length, map, arith, ap, ◌∙◌, sym}
 use Rattle.arrow_arrays.specs.Written.{struct_part}
 use Rattle.otap_columns.specs.BuiltCells.{columns_most, with_part}
-use Rattle.otap_columns.specs.WrittenGroups.{forms_in, member_in}
+use Rattle.otap_cells.specs.StaticGroups.{member_in}
+use Rattle.otap_columns.specs.FormsIn.{forms_in}
 use Rattle.otap_columns.specs.BuiltRows.{columns_in}
 use Rattle.otap_columns.proofs.BatchGrown.{under_grows}
 use Rattle.otap_columns.proofs.RowsAdded.{rows_light, under_none, under_ok}

@@ -1,7 +1,8 @@
 use Rattle.std.proofs.Common.{[], length, take}
 use Rattle.std.specs.Prelude.{sum_by}
 use Rattle.otap_columns.specs.BuiltCells.{GrowsBy, group_most, group_parts}
-use Rattle.otap_columns.specs.WrittenGroups.{forms_in, group_in}
+use Rattle.otap_cells.specs.StaticGroups.{group_in}
+use Rattle.otap_columns.specs.FormsIn.{forms_in}
 use Rattle.otap_columns.specs.BuiltRows.{AddsSlots, columns_in}
 use Rattle.otap_columns.proofs.RowsAdded.{group_slots}
 use Rattle.otap_columns.proofs.writer.rows.rows_of.Given as goal

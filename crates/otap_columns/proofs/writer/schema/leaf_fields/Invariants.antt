@@ -1,5 +1,5 @@
 use Rattle.std.proofs.Common.{◌≡◌, take}
-use Rattle.otap_columns.specs.WrittenGroups.{forms_in}
+use Rattle.otap_columns.specs.FormsIn.{forms_in}
 use Rattle.otap_columns.proofs.SchemaBuilt.{leaves}
 use Rattle.otap_columns.proofs.writer.schema.leaf_fields.Given as goal
 

@@ -1,5 +1,5 @@
 use Rattle.std.proofs.Common.{◌≡◌, take}
-use Rattle.otap_columns.specs.WrittenGroups.{forms_in}
+use Rattle.otap_columns.specs.FormsIn.{forms_in}
 use Rattle.otap_columns.proofs.SchemaBuilt.{built}
 use Rattle.otap_columns.proofs.writer.schema.schema_of.Given as goal
 

@@ -3,7 +3,7 @@ use Rattle.otap_signals.proofs.spans.SpanSignalSignalTables.tables_come_back.Goa
 pub returns : goal.returns
 returns c = λ groups is. record {
   same = c.tables_tell_the_same.ensures groups is.real is.profile is.light;
-  light = c.tables_are_light.ensures groups is.real is.profile is.light;
+  light = c.rebuilt_is_no_heavier.ensures groups is.real is.profile is.light;
   clean = c.tables_have_no_defects.ensures groups is.real is.profile is.light;
   profile = c.tables_can_be_written.ensures groups is.real is.profile is.light;
   order = c.tables_by_type.ensures groups;
