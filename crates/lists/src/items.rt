@@ -86,6 +86,13 @@ impl<T: Drop> Items<T> {
         Ok(())
     }
 
+    /// Drops all items. The room for them stays.
+    pub fn clear(&mut self)
+        ensures { self.new ≡ [] }
+    {
+        self.items.clear();
+    }
+
     /// Reserves room for `more` items beside those in the list, so that pushing them allocates nothing. The list stays as it
     /// is, and one that has no room at all gets exactly that much.
     pub fn reserve(&mut self, more: usize) -> Result<(), AllocError>

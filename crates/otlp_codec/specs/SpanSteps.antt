@@ -1,5 +1,5 @@
 -- One field after another, in the words of private contracts: how the messages of spans are read in one pass.
-use Rattle.std.specs.Prelude.{[], pos}
+use Rattle.std.specs.Prelude.{[]}
 use Rattle.otlp_wire.specs.Wire.{Entry}
 use Rattle.otlp_messages.specs.Rows.{at, fixed64_in, fixed32_in, uint32_in, int32_in, bytes_in, embedded_in, many_in}
 use Rattle.otlp_model.specs.declared.spans.Span.{Span}

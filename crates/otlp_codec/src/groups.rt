@@ -19,6 +19,7 @@ ghost use Rattle.otlp_codec.specs.Canonical.{resource_rows, scope_rows, canon_sc
 use crate::cells::{take_text, take_uint32};
 use crate::lengths::{len_bytes_row, len_more, len_one, len_pairs, len_varint_row};
 use crate::part::{ItemMessage, Submessage, read_part, take_items, take_more, take_pairs};
+use crate::pool::Pool;
 use crate::refusal::ReadRefusal;
 use crate::writing::{Spelled, write_more, write_one, write_pairs, write_text};
 use otlp_messages::{Backward, Message};
@@ -49,10 +50,10 @@ impl Submessage for Resource {
         }
     }
 
-    fn take(&mut self, alloc: Global, field: &Field<'_>) -> Result<(), ReadRefusal> {
+    fn take(&mut self, pool: &mut Pool, field: &Field<'_>) -> Result<(), ReadRefusal> {
         let value = &field.value;
         match field.number {
-            1 => take_pairs(alloc, &mut self.pairs, value),
+            1 => take_pairs(pool, &mut self.pairs, value),
             2 => take_uint32(&mut self.dropped, value),
             _ => Ok(()),
         }
@@ -84,12 +85,12 @@ impl Submessage for Scope {
         }
     }
 
-    fn take(&mut self, alloc: Global, field: &Field<'_>) -> Result<(), ReadRefusal> {
+    fn take(&mut self, pool: &mut Pool, field: &Field<'_>) -> Result<(), ReadRefusal> {
         let value = &field.value;
         match field.number {
-            1 => take_text(alloc, &mut self.name, value),
-            2 => take_text(alloc, &mut self.version, value),
-            3 => take_pairs(alloc, &mut self.pairs, value),
+            1 => take_text(pool.alloc(), &mut self.name, value),
+            2 => take_text(pool.alloc(), &mut self.version, value),
+            3 => take_pairs(pool, &mut self.pairs, value),
             4 => take_uint32(&mut self.dropped, value),
             _ => Ok(()),
         }
@@ -118,12 +119,12 @@ impl<I: ItemMessage + Drop> Submessage for ScopeGroup<I> {
         }
     }
 
-    fn take(&mut self, alloc: Global, field: &Field<'_>) -> Result<(), ReadRefusal> {
+    fn take(&mut self, pool: &mut Pool, field: &Field<'_>) -> Result<(), ReadRefusal> {
         let value = &field.value;
         match field.number {
-            1 => take_scope(alloc, &mut self.scope, value),
-            2 => take_items(alloc, &mut self.items, value),
-            3 => take_text(alloc, &mut self.scope.schema_url, value),
+            1 => take_scope(pool, &mut self.scope, value),
+            2 => take_items(pool, &mut self.items, value),
+            3 => take_text(pool.alloc(), &mut self.scope.schema_url, value),
             _ => Ok(()),
         }
     }
@@ -151,12 +152,12 @@ impl<I: ItemMessage + Drop> Submessage for ResourceGroup<I> {
         }
     }
 
-    fn take(&mut self, alloc: Global, field: &Field<'_>) -> Result<(), ReadRefusal> {
+    fn take(&mut self, pool: &mut Pool, field: &Field<'_>) -> Result<(), ReadRefusal> {
         let value = &field.value;
         match field.number {
-            1 => take_resource(alloc, &mut self.resource, value),
-            2 => take_more(alloc, &mut self.scopes, value),
-            3 => take_text(alloc, &mut self.resource.schema_url, value),
+            1 => take_resource(pool, &mut self.resource, value),
+            2 => take_more(pool, &mut self.scopes, value),
+            3 => take_text(pool.alloc(), &mut self.resource.schema_url, value),
             _ => Ok(()),
         }
     }
@@ -181,9 +182,9 @@ impl<I: ItemMessage + Drop> Submessage for Items<ResourceGroup<I>> {
         Items::new(alloc)
     }
 
-    fn take(&mut self, alloc: Global, field: &Field<'_>) -> Result<(), ReadRefusal> {
+    fn take(&mut self, pool: &mut Pool, field: &Field<'_>) -> Result<(), ReadRefusal> {
         match field.number {
-            1 => take_more(alloc, self, &field.value),
+            1 => take_more(pool, self, &field.value),
             _ => Ok(()),
         }
     }
@@ -192,7 +193,7 @@ impl<I: ItemMessage + Drop> Submessage for Items<ResourceGroup<I>> {
 /// Reads the resource of a group, all but its schema url.
 #[inline]
 pub(crate) fn take_resource(
-    alloc: Global,
+    pool: &mut Pool,
     to: &mut Resource,
     value: &Wire<'_>,
 ) -> Result<(), ReadRefusal>
@@ -207,7 +208,7 @@ pub(crate) fn take_resource(
         schema_url: _,
         dropped,
         pairs,
-    } = read_part(alloc, bytes)?;
+    } = read_part(pool, bytes)?;
     to.dropped = dropped;
     to.pairs = pairs;
     Ok(())
@@ -215,7 +216,11 @@ pub(crate) fn take_resource(
 
 /// Reads the scope of a group, all but its schema url.
 #[inline]
-pub(crate) fn take_scope(alloc: Global, to: &mut Scope, value: &Wire<'_>) -> Result<(), ReadRefusal>
+pub(crate) fn take_scope(
+    pool: &mut Pool,
+    to: &mut Scope,
+    value: &Wire<'_>,
+) -> Result<(), ReadRefusal>
     ensures ok { OnOk result (to.new ≡ scope_part_in to.old (value_of value.now)) }
     ensures fine { IfOk result (λ _. FineValue (kinds.Embedded messages.InstrumentationScope) level_limit (value_of value.now)) }
     ensures fault { IfErr result (RefusesValue (kinds.Embedded messages.InstrumentationScope) level_limit (value_of value.now)) }
@@ -229,7 +234,7 @@ pub(crate) fn take_scope(alloc: Global, to: &mut Scope, value: &Wire<'_>) -> Res
         version,
         dropped,
         pairs,
-    } = read_part(alloc, bytes)?;
+    } = read_part(pool, bytes)?;
     to.name = name;
     to.version = version;
     to.dropped = dropped;

@@ -13,6 +13,7 @@ use crate::numbers::{
     len_optional, len_packed, take_optional, take_packed, write_optional, write_packed,
 };
 use crate::part::{Submessage, take_more, take_pairs};
+use crate::pool::Pool;
 use crate::refusal::ReadRefusal;
 use crate::writing::{Spelled, write_more, write_pairs};
 use otlp_messages::{Backward, Message};
@@ -51,7 +52,7 @@ impl Submessage for HistPoint {
         }
     }
 
-    fn take(&mut self, alloc: Global, field: &Field<'_>) -> Result<(), ReadRefusal> {
+    fn take(&mut self, pool: &mut Pool, field: &Field<'_>) -> Result<(), ReadRefusal> {
         let value = &field.value;
         match field.number {
             2 => take_fixed64(&mut self.start, value),
@@ -60,8 +61,8 @@ impl Submessage for HistPoint {
             5 => take_optional(&mut self.sum, value),
             6 => take_packed(&mut self.buckets, value),
             7 => take_packed(&mut self.bounds, value),
-            8 => take_more(alloc, &mut self.exemplars, value),
-            9 => take_pairs(alloc, &mut self.pairs, value),
+            8 => take_more(pool, &mut self.exemplars, value),
+            9 => take_pairs(pool, &mut self.pairs, value),
             10 => take_uint32(&mut self.flags, value),
             11 => take_optional(&mut self.min, value),
             12 => take_optional(&mut self.max, value),
@@ -131,7 +132,7 @@ impl Submessage for Quantile {
         }
     }
 
-    fn take(&mut self, _alloc: Global, field: &Field<'_>) -> Result<(), ReadRefusal> {
+    fn take(&mut self, _room: &mut Pool, field: &Field<'_>) -> Result<(), ReadRefusal> {
         let value = &field.value;
         match field.number {
             1 => take_fixed64(&mut self.quantile, value),
@@ -186,15 +187,15 @@ impl Submessage for SumPoint {
         }
     }
 
-    fn take(&mut self, alloc: Global, field: &Field<'_>) -> Result<(), ReadRefusal> {
+    fn take(&mut self, pool: &mut Pool, field: &Field<'_>) -> Result<(), ReadRefusal> {
         let value = &field.value;
         match field.number {
             2 => take_fixed64(&mut self.start, value),
             3 => take_fixed64(&mut self.time, value),
             4 => take_fixed64(&mut self.count, value),
             5 => take_fixed64(&mut self.sum, value),
-            6 => take_more(alloc, &mut self.quantiles, value),
-            7 => take_pairs(alloc, &mut self.pairs, value),
+            6 => take_more(pool, &mut self.quantiles, value),
+            7 => take_pairs(pool, &mut self.pairs, value),
             8 => take_uint32(&mut self.flags, value),
             _ => Ok(()),
         }

@@ -11,6 +11,7 @@ mod metrics;
 mod numbers;
 mod part;
 mod points;
+mod pool;
 mod refusal;
 mod request;
 mod shapes;
@@ -24,4 +25,4 @@ pub use laws::{
     written_is_read,
 };
 pub use refusal::ReadRefusal;
-pub use request::{len_request, put_request, read_request, write_request};
+pub use request::{RequestReader, len_request, put_request, read_request, write_request};

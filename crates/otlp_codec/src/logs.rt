@@ -15,6 +15,7 @@ use crate::lengths::{
     len_bytes_row, len_fixed32_row, len_fixed64_row, len_one, len_pairs, len_varint_row,
 };
 use crate::part::{ItemMessage, Submessage, take_pairs, take_value};
+use crate::pool::Pool;
 use crate::refusal::ReadRefusal;
 use crate::writing::{Spelled, write_octets, write_one, write_pairs, write_text};
 use otlp_messages::{Backward, ItemKind, Message};
@@ -41,20 +42,20 @@ impl Submessage for LogRecord {
         LogRecord::empty(alloc)
     }
 
-    fn take(&mut self, alloc: Global, field: &Field<'_>) -> Result<(), ReadRefusal> {
+    fn take(&mut self, pool: &mut Pool, field: &Field<'_>) -> Result<(), ReadRefusal> {
         let value = &field.value;
         match field.number {
             1 => take_fixed64(&mut self.time, value),
             2 => take_int32(&mut self.severity, value),
-            3 => take_text(alloc, &mut self.severity_text, value),
-            5 => take_value(alloc, &mut self.body, value),
-            6 => take_pairs(alloc, &mut self.pairs, value),
+            3 => take_text(pool.alloc(), &mut self.severity_text, value),
+            5 => take_value(pool.alloc(), &mut self.body, value),
+            6 => take_pairs(pool, &mut self.pairs, value),
             7 => take_uint32(&mut self.dropped, value),
             8 => take_fixed32(&mut self.flags, value),
-            9 => take_id(alloc, &mut self.trace_id, 16, value),
-            10 => take_id(alloc, &mut self.span_id, 8, value),
+            9 => take_id(pool.alloc(), &mut self.trace_id, 16, value),
+            10 => take_id(pool.alloc(), &mut self.span_id, 8, value),
             11 => take_fixed64(&mut self.observed, value),
-            12 => take_text(alloc, &mut self.event_name, value),
+            12 => take_text(pool.alloc(), &mut self.event_name, value),
             _ => Ok(()),
         }
     }

@@ -20,6 +20,7 @@ ghost use Rattle.otlp_model.specs.Limits.{count_cap};
 use crate::cells::take_text;
 use crate::lengths::len_bytes_row;
 use crate::part::{ItemMessage, Submessage};
+use crate::pool::Pool;
 use crate::refusal::ReadRefusal;
 use crate::shapes::{
     len_gauge, len_histogram, len_sum, len_summary, take_gauge, take_histogram, take_sum,
@@ -55,17 +56,17 @@ impl Submessage for Metric {
         }
     }
 
-    fn take(&mut self, alloc: Global, field: &Field<'_>) -> Result<(), ReadRefusal> {
+    fn take(&mut self, pool: &mut Pool, field: &Field<'_>) -> Result<(), ReadRefusal> {
         let value = &field.value;
         match field.number {
-            1 => take_text(alloc, &mut self.name, value),
-            2 => take_text(alloc, &mut self.description, value),
-            3 => take_text(alloc, &mut self.unit, value),
-            5 => take_gauge(alloc, &mut self.shape, value),
-            7 => take_sum(alloc, &mut self.shape, value),
-            9 => take_histogram(alloc, &mut self.shape, value),
+            1 => take_text(pool.alloc(), &mut self.name, value),
+            2 => take_text(pool.alloc(), &mut self.description, value),
+            3 => take_text(pool.alloc(), &mut self.unit, value),
+            5 => take_gauge(pool, &mut self.shape, value),
+            7 => take_sum(pool, &mut self.shape, value),
+            9 => take_histogram(pool, &mut self.shape, value),
             10 => Err(unsupported(value)),
-            11 => take_summary(alloc, &mut self.shape, value),
+            11 => take_summary(pool, &mut self.shape, value),
             _ => Ok(()),
         }
     }

@@ -15,6 +15,7 @@ ghost use Rattle.otlp_codec.specs.Limits.{level_limit};
 ghost use Rattle.otlp_codec.specs.PartRefusals.{Refuses, RefusesValue};
 ghost use Rattle.otlp_codec.specs.Groups.{value_in, pair_in};
 
+use crate::pool::Pool;
 use crate::refusal::ReadRefusal;
 use crate::values::{empty_pair, fill_pair, fill_value};
 use otlp_messages::{ItemKind, MARKS, Message, row_of};
@@ -24,9 +25,6 @@ use std::alloc::Global;
 
 /// How many levels of members may be below a value that is in no array and no key-value list.
 pub(crate) const LEVELS: u8 = MAX_DEPTH as u8 - 1;
-
-/// Room for this number of attributes is reserved when the first one is read.
-const FIRST_PAIRS: usize = 8;
 
 /// A message of which each field is read over what was read before.
 pub(crate) trait Submessage {
@@ -48,7 +46,7 @@ pub(crate) trait Submessage {
     fn empty(alloc: Global) -> Self
         ensures { result ≡ none };
 
-    fn take(&mut self, alloc: Global, field: &Field<'_>) -> Result<(), ReadRefusal>
+    fn take(&mut self, pool: &mut Pool, field: &Field<'_>) -> Result<(), ReadRefusal>
         ensures ok { OnOk result (self.new ≡ step self.old (entry field.now)) }
         ensures fine { IfOk result (λ _. FineValue (kind_of named field.now.number) level_limit (value_of field.now.value)) }
         ensures fault { IfErr result (RefusesValue (kind_of named field.now.number) level_limit (value_of field.now.value)) };
@@ -70,17 +68,20 @@ pub(crate) trait ItemMessage: Submessage {
 
 /// Reads a message, in one pass over its bytes.
 #[inline]
-pub(crate) fn read_part<P: Submessage + Drop>(alloc: Global, bytes: &[u8]) -> Result<P, ReadRefusal>
+pub(crate) fn read_part<P: Submessage + Drop>(
+    pool: &mut Pool,
+    bytes: &[u8],
+) -> Result<P, ReadRefusal>
     ensures value { IfOk result (λ part. IsFine P.named level_limit bytes.now × (part ≡ P.reads bytes.now)) }
     ensures fault { IfErr result (Refuses P.named level_limit bytes.now) }
 {
-    let mut part = P::empty(alloc);
-    fill(alloc, &mut part, bytes)?;
+    let mut part = P::empty(pool.alloc());
+    fill(pool, &mut part, bytes)?;
     Ok(part)
 }
 
 /// Reads a message into one that is empty.
-fn fill<P: Submessage>(alloc: Global, part: &mut P, bytes: &[u8]) -> Result<(), ReadRefusal>
+fn fill<P: Submessage>(pool: &mut Pool, part: &mut P, bytes: &[u8]) -> Result<(), ReadRefusal>
     requires { part.old ≡ P.none }
     ensures value { OnOk result (IsFine P.named level_limit bytes.now × (part.new ≡ P.reads bytes.now)) }
     ensures fault { IfErr result (Refuses P.named level_limit bytes.now) }
@@ -95,7 +96,7 @@ fn fill<P: Submessage>(alloc: Global, part: &mut P, bytes: &[u8]) -> Result<(), 
             return Err(ReadRefusal::Repeated);
         }
         seen[mark] = mark != 0;
-        part.take(alloc, &field)?;
+        part.take(pool, &field)?;
     }
     Ok(())
 }
@@ -103,7 +104,7 @@ fn fill<P: Submessage>(alloc: Global, part: &mut P, bytes: &[u8]) -> Result<(), 
 /// Reads one more message of those that may occur any number of times.
 #[inline]
 pub(crate) fn take_more<P: Submessage + Drop>(
-    alloc: Global,
+    pool: &mut Pool,
     to: &mut Items<P>,
     value: &Wire<'_>,
 ) -> Result<(), ReadRefusal>
@@ -114,8 +115,8 @@ pub(crate) fn take_more<P: Submessage + Drop>(
     let Wire::Bytes(bytes) = value else {
         return Err(ReadRefusal::BadMessage);
     };
-    let mut part = P::empty(alloc);
-    fill(alloc, &mut part, bytes)?;
+    let mut part = P::empty(pool.alloc());
+    fill(pool, &mut part, bytes)?;
     to.push(part)?;
     Ok(())
 }
@@ -123,7 +124,7 @@ pub(crate) fn take_more<P: Submessage + Drop>(
 /// Reads one more main item.
 #[inline]
 pub(crate) fn take_items<I: ItemMessage + Drop>(
-    alloc: Global,
+    pool: &mut Pool,
     to: &mut Items<I>,
     value: &Wire<'_>,
 ) -> Result<(), ReadRefusal>
@@ -131,13 +132,13 @@ pub(crate) fn take_items<I: ItemMessage + Drop>(
     ensures fine { IfOk result (λ _. FineValue (kinds.Embedded (item_of I.of)) level_limit (value_of value.now)) }
     ensures fault { IfErr result (RefusesValue (kinds.Embedded (item_of I.of)) level_limit (value_of value.now)) }
 {
-    take_more(alloc, to, value)
+    take_more(pool, to, value)
 }
 
 /// Reads one more attribute.
 #[inline]
 pub(crate) fn take_pairs(
-    alloc: Global,
+    pool: &mut Pool,
     to: &mut Items<Pair>,
     value: &Wire<'_>,
 ) -> Result<(), ReadRefusal>
@@ -149,8 +150,9 @@ pub(crate) fn take_pairs(
         return Err(ReadRefusal::BadMessage);
     };
     if to.is_empty() {
-        to.reserve(FIRST_PAIRS)?;
+        *to = pool.list()?;
     }
+    let alloc = pool.alloc();
     let mut pair = empty_pair(alloc);
     fill_pair(alloc, LEVELS, &mut pair, bytes)?;
     to.push(pair)?;

@@ -11,6 +11,7 @@ use crate::cells::{take_fixed64, take_id, take_uint32};
 use crate::lengths::{len_bytes_row, len_fixed64_row, len_more, len_pairs, len_varint_row};
 use crate::numbers::{len_double, len_int, take_double, take_int, write_double, write_int};
 use crate::part::{Submessage, take_more, take_pairs};
+use crate::pool::Pool;
 use crate::refusal::ReadRefusal;
 use crate::writing::{Spelled, write_more, write_octets, write_pairs};
 use otlp_messages::{Backward, Message};
@@ -43,15 +44,15 @@ impl Submessage for Exemplar {
         }
     }
 
-    fn take(&mut self, alloc: Global, field: &Field<'_>) -> Result<(), ReadRefusal> {
+    fn take(&mut self, pool: &mut Pool, field: &Field<'_>) -> Result<(), ReadRefusal> {
         let value = &field.value;
         match field.number {
             2 => take_fixed64(&mut self.time, value),
             3 => take_double(&mut self.value, value),
-            4 => take_id(alloc, &mut self.span_id, 8, value),
-            5 => take_id(alloc, &mut self.trace_id, 16, value),
+            4 => take_id(pool.alloc(), &mut self.span_id, 8, value),
+            5 => take_id(pool.alloc(), &mut self.trace_id, 16, value),
             6 => take_int(&mut self.value, value),
-            7 => take_pairs(alloc, &mut self.pairs, value),
+            7 => take_pairs(pool, &mut self.pairs, value),
             _ => Ok(()),
         }
     }
@@ -112,15 +113,15 @@ impl Submessage for Point {
         }
     }
 
-    fn take(&mut self, alloc: Global, field: &Field<'_>) -> Result<(), ReadRefusal> {
+    fn take(&mut self, pool: &mut Pool, field: &Field<'_>) -> Result<(), ReadRefusal> {
         let value = &field.value;
         match field.number {
             2 => take_fixed64(&mut self.start, value),
             3 => take_fixed64(&mut self.time, value),
             4 => take_double(&mut self.value, value),
-            5 => take_more(alloc, &mut self.exemplars, value),
+            5 => take_more(pool, &mut self.exemplars, value),
             6 => take_int(&mut self.value, value),
-            7 => take_pairs(alloc, &mut self.pairs, value),
+            7 => take_pairs(pool, &mut self.pairs, value),
             8 => take_uint32(&mut self.flags, value),
             _ => Ok(()),
         }

@@ -12,11 +12,59 @@ ghost use Rattle.otlp_codec.specs.Requests.{Stands, Reads, canon_request};
 
 use crate::lengths::len_more;
 use crate::part::read_part;
+use crate::pool::{Pool, give_back_each};
 use crate::refusal::ReadRefusal;
 use crate::writing::write_more;
 use otlp_messages::Backward;
 use otlp_model::{Request, Signal};
 use std::alloc::{AllocError, Global};
+use std::marker::Model;
+
+/// A reader of requests, one after the other. It reads into the lists of attributes of requests that it took back, of which it
+/// keeps some thousand short ones. A contract sees nothing of it: each request is read as if it were the first.
+#[derive(Debug, Drop)]
+pub struct RequestReader {
+    pool: Pool,
+}
+
+impl Model for RequestReader {
+    ghost Value = { Unit {0} };
+
+    ghost view = { λ _. tt };
+}
+
+impl RequestReader {
+    /// A reader that keeps nothing yet.
+    pub fn new(alloc: Global) -> RequestReader {
+        RequestReader {
+            pool: Pool::new(alloc),
+        }
+    }
+
+    /// Reads an export request of the signal, as [`read_request`] does.
+    pub fn read(&mut self, signal: Signal, bytes: &[u8]) -> Result<Request, ReadRefusal>
+        ensures reads { IfOk result (Reads signal bytes.now) }
+        ensures profile { IfOk result IsProfile }
+        ensures fault { IfErr result (λ refusal. HoldsNamed refusal (Stands signal bytes.now)) }
+    {
+        let pool = &mut self.pool;
+        match signal {
+            Signal::Traces => Ok(Request::Traces(read_part(pool, bytes)?)),
+            Signal::Logs => Ok(Request::Logs(read_part(pool, bytes)?)),
+            Signal::Metrics => Ok(Request::Metrics(read_part(pool, bytes)?)),
+        }
+    }
+
+    /// Takes a request that is done with, for the memory of its lists. One walk.
+    pub fn take_back(&mut self, mut request: Request) {
+        let pool = &mut self.pool;
+        match &mut request {
+            Request::Traces(groups) => give_back_each(groups, pool),
+            Request::Logs(groups) => give_back_each(groups, pool),
+            Request::Metrics(groups) => give_back_each(groups, pool),
+        }
+    }
+}
 
 /// Reads an export request of the signal (OTLP 1.x): `ExportTraceServiceRequest`,
 /// `ExportLogsServiceRequest` or `ExportMetricsServiceRequest`.
@@ -28,11 +76,7 @@ pub fn read_request(alloc: Global, signal: Signal, bytes: &[u8]) -> Result<Reque
     ensures profile { IfOk result IsProfile }
     ensures fault { IfErr result (λ refusal. HoldsNamed refusal (Stands signal bytes.now)) }
 {
-    match signal {
-        Signal::Traces => Ok(Request::Traces(read_part(alloc, bytes)?)),
-        Signal::Logs => Ok(Request::Logs(read_part(alloc, bytes)?)),
-        Signal::Metrics => Ok(Request::Metrics(read_part(alloc, bytes)?)),
-    }
+    RequestReader::new(alloc).read(signal, bytes)
 }
 
 /// How many bytes the canonical spelling of the request has, or 2^63 where there are more; a request that

@@ -22,6 +22,7 @@ use crate::cells::take_int32;
 use crate::lengths::{len_more, len_part, len_varint_row};
 use crate::numbers::{len_bool, take_bool};
 use crate::part::{Submessage, read_part, take_more};
+use crate::pool::Pool;
 use crate::refusal::ReadRefusal;
 use crate::writing::write_more;
 use otlp_messages::{Backward, Message};
@@ -63,9 +64,9 @@ impl Submessage for Items<Point> {
         Items::new(alloc)
     }
 
-    fn take(&mut self, alloc: Global, field: &Field<'_>) -> Result<(), ReadRefusal> {
+    fn take(&mut self, pool: &mut Pool, field: &Field<'_>) -> Result<(), ReadRefusal> {
         match field.number {
-            1 => take_more(alloc, self, &field.value),
+            1 => take_more(pool, self, &field.value),
             _ => Ok(()),
         }
     }
@@ -94,10 +95,10 @@ impl Submessage for Sum {
         }
     }
 
-    fn take(&mut self, alloc: Global, field: &Field<'_>) -> Result<(), ReadRefusal> {
+    fn take(&mut self, pool: &mut Pool, field: &Field<'_>) -> Result<(), ReadRefusal> {
         let value = &field.value;
         match field.number {
-            1 => take_more(alloc, &mut self.points, value),
+            1 => take_more(pool, &mut self.points, value),
             2 => take_int32(&mut self.temporality, value),
             3 => take_bool(&mut self.monotonic, value),
             _ => Ok(()),
@@ -127,10 +128,10 @@ impl Submessage for Histogram {
         }
     }
 
-    fn take(&mut self, alloc: Global, field: &Field<'_>) -> Result<(), ReadRefusal> {
+    fn take(&mut self, pool: &mut Pool, field: &Field<'_>) -> Result<(), ReadRefusal> {
         let value = &field.value;
         match field.number {
-            1 => take_more(alloc, &mut self.points, value),
+            1 => take_more(pool, &mut self.points, value),
             2 => take_int32(&mut self.temporality, value),
             _ => Ok(()),
         }
@@ -156,16 +157,20 @@ impl Submessage for Items<SumPoint> {
         Items::new(alloc)
     }
 
-    fn take(&mut self, alloc: Global, field: &Field<'_>) -> Result<(), ReadRefusal> {
+    fn take(&mut self, pool: &mut Pool, field: &Field<'_>) -> Result<(), ReadRefusal> {
         match field.number {
-            1 => take_more(alloc, self, &field.value),
+            1 => take_more(pool, self, &field.value),
             _ => Ok(()),
         }
     }
 }
 
 /// Reads a gauge.
-pub(crate) fn take_gauge(alloc: Global, to: &mut Shape, value: &Wire<'_>) -> Result<(), ReadRefusal>
+pub(crate) fn take_gauge(
+    pool: &mut Pool,
+    to: &mut Shape,
+    value: &Wire<'_>,
+) -> Result<(), ReadRefusal>
     ensures ok { OnOk result (to.new ≡ gauge_shape_in to.old (value_of value.now)) }
     ensures fine { IfOk result (λ _. FineValue (kinds.Embedded messages.Gauge) level_limit (value_of value.now)) }
     ensures fault { IfErr result (RefusesValue (kinds.Embedded messages.Gauge) level_limit (value_of value.now)) }
@@ -173,13 +178,13 @@ pub(crate) fn take_gauge(alloc: Global, to: &mut Shape, value: &Wire<'_>) -> Res
     let Wire::Bytes(part) = value else {
         return Err(ReadRefusal::BadMessage);
     };
-    let points = read_part(alloc, part)?;
+    let points = read_part(pool, part)?;
     *to = Shape::Gauge(points);
     Ok(())
 }
 
 /// Reads a sum.
-pub(crate) fn take_sum(alloc: Global, to: &mut Shape, value: &Wire<'_>) -> Result<(), ReadRefusal>
+pub(crate) fn take_sum(pool: &mut Pool, to: &mut Shape, value: &Wire<'_>) -> Result<(), ReadRefusal>
     ensures ok { OnOk result (to.new ≡ sum_shape_in to.old (value_of value.now)) }
     ensures fine { IfOk result (λ _. FineValue (kinds.Embedded messages.Sum) level_limit (value_of value.now)) }
     ensures fault { IfErr result (RefusesValue (kinds.Embedded messages.Sum) level_limit (value_of value.now)) }
@@ -187,7 +192,7 @@ pub(crate) fn take_sum(alloc: Global, to: &mut Shape, value: &Wire<'_>) -> Resul
     let Wire::Bytes(part) = value else {
         return Err(ReadRefusal::BadMessage);
     };
-    let sum = read_part::<Sum>(alloc, part)?;
+    let sum = read_part::<Sum>(pool, part)?;
     *to = Shape::Sum {
         points: sum.points,
         temporality: sum.temporality,
@@ -198,7 +203,7 @@ pub(crate) fn take_sum(alloc: Global, to: &mut Shape, value: &Wire<'_>) -> Resul
 
 /// Reads a histogram.
 pub(crate) fn take_histogram(
-    alloc: Global,
+    pool: &mut Pool,
     to: &mut Shape,
     value: &Wire<'_>,
 ) -> Result<(), ReadRefusal>
@@ -209,7 +214,7 @@ pub(crate) fn take_histogram(
     let Wire::Bytes(part) = value else {
         return Err(ReadRefusal::BadMessage);
     };
-    let histogram = read_part::<Histogram>(alloc, part)?;
+    let histogram = read_part::<Histogram>(pool, part)?;
     *to = Shape::Histogram {
         points: histogram.points,
         temporality: histogram.temporality,
@@ -219,7 +224,7 @@ pub(crate) fn take_histogram(
 
 /// Reads a summary.
 pub(crate) fn take_summary(
-    alloc: Global,
+    pool: &mut Pool,
     to: &mut Shape,
     value: &Wire<'_>,
 ) -> Result<(), ReadRefusal>
@@ -230,7 +235,7 @@ pub(crate) fn take_summary(
     let Wire::Bytes(part) = value else {
         return Err(ReadRefusal::BadMessage);
     };
-    let points = read_part(alloc, part)?;
+    let points = read_part(pool, part)?;
     *to = Shape::Summary(points);
     Ok(())
 }

@@ -26,6 +26,7 @@ use crate::lengths::{
     len_bytes_row, len_fixed32_row, len_fixed64_row, len_more, len_one, len_pairs, len_varint_row,
 };
 use crate::part::{ItemMessage, Submessage, read_part, take_more, take_pairs};
+use crate::pool::Pool;
 use crate::refusal::ReadRefusal;
 use crate::writing::{Spelled, write_more, write_octets, write_one, write_pairs, write_text};
 use otlp_messages::{Backward, ItemKind, Message};
@@ -71,12 +72,12 @@ impl Submessage for Event {
         }
     }
 
-    fn take(&mut self, alloc: Global, field: &Field<'_>) -> Result<(), ReadRefusal> {
+    fn take(&mut self, pool: &mut Pool, field: &Field<'_>) -> Result<(), ReadRefusal> {
         let value = &field.value;
         match field.number {
             1 => take_fixed64(&mut self.time, value),
-            2 => take_text(alloc, &mut self.name, value),
-            3 => take_pairs(alloc, &mut self.pairs, value),
+            2 => take_text(pool.alloc(), &mut self.name, value),
+            3 => take_pairs(pool, &mut self.pairs, value),
             4 => take_uint32(&mut self.dropped, value),
             _ => Ok(()),
         }
@@ -109,13 +110,13 @@ impl Submessage for Link {
         }
     }
 
-    fn take(&mut self, alloc: Global, field: &Field<'_>) -> Result<(), ReadRefusal> {
+    fn take(&mut self, pool: &mut Pool, field: &Field<'_>) -> Result<(), ReadRefusal> {
         let value = &field.value;
         match field.number {
-            1 => take_id(alloc, &mut self.trace_id, 16, value),
-            2 => take_id(alloc, &mut self.span_id, 8, value),
-            3 => take_text(alloc, &mut self.trace_state, value),
-            4 => take_pairs(alloc, &mut self.pairs, value),
+            1 => take_id(pool.alloc(), &mut self.trace_id, 16, value),
+            2 => take_id(pool.alloc(), &mut self.span_id, 8, value),
+            3 => take_text(pool.alloc(), &mut self.trace_state, value),
+            4 => take_pairs(pool, &mut self.pairs, value),
             5 => take_uint32(&mut self.dropped, value),
             6 => take_fixed32(&mut self.flags, value),
             _ => Ok(()),
@@ -145,10 +146,10 @@ impl Submessage for SpanStatus {
         }
     }
 
-    fn take(&mut self, alloc: Global, field: &Field<'_>) -> Result<(), ReadRefusal> {
+    fn take(&mut self, pool: &mut Pool, field: &Field<'_>) -> Result<(), ReadRefusal> {
         let value = &field.value;
         match field.number {
-            2 => take_text(alloc, &mut self.message, value),
+            2 => take_text(pool.alloc(), &mut self.message, value),
             3 => take_int32(&mut self.code, value),
             _ => Ok(()),
         }
@@ -174,29 +175,24 @@ impl Submessage for Span {
         Span::empty(alloc)
     }
 
-    fn take(&mut self, alloc: Global, field: &Field<'_>) -> Result<(), ReadRefusal> {
+    fn take(&mut self, pool: &mut Pool, field: &Field<'_>) -> Result<(), ReadRefusal> {
         let value = &field.value;
         match field.number {
-            1 => take_id(alloc, &mut self.trace_id, 16, value),
-            2 => take_id(alloc, &mut self.span_id, 8, value),
-            3 => take_text(alloc, &mut self.trace_state, value),
-            4 => take_id(alloc, &mut self.parent_span_id, 8, value),
-            5 => take_text(alloc, &mut self.name, value),
+            1 => take_id(pool.alloc(), &mut self.trace_id, 16, value),
+            2 => take_id(pool.alloc(), &mut self.span_id, 8, value),
+            3 => take_text(pool.alloc(), &mut self.trace_state, value),
+            4 => take_id(pool.alloc(), &mut self.parent_span_id, 8, value),
+            5 => take_text(pool.alloc(), &mut self.name, value),
             6 => take_int32(&mut self.kind, value),
             7 => take_fixed64(&mut self.start, value),
             8 => take_fixed64(&mut self.end, value),
-            9 => take_pairs(alloc, &mut self.pairs, value),
+            9 => take_pairs(pool, &mut self.pairs, value),
             10 => take_uint32(&mut self.dropped_pairs, value),
-            11 => take_more(alloc, &mut self.events, value),
+            11 => take_more(pool, &mut self.events, value),
             12 => take_uint32(&mut self.dropped_events, value),
-            13 => take_more(alloc, &mut self.links, value),
+            13 => take_more(pool, &mut self.links, value),
             14 => take_uint32(&mut self.dropped_links, value),
-            15 => take_status(
-                alloc,
-                &mut self.status_message,
-                &mut self.status_code,
-                value,
-            ),
+            15 => take_status(pool, &mut self.status_message, &mut self.status_code, value),
             16 => take_fixed32(&mut self.flags, value),
             _ => Ok(()),
         }
@@ -215,7 +211,7 @@ impl ItemMessage for Span {
 
 /// Reads the status of a span into its parts.
 fn take_status(
-    alloc: Global,
+    pool: &mut Pool,
     message: &mut Text,
     code: &mut i32,
     value: &Wire<'_>,
@@ -227,7 +223,7 @@ fn take_status(
     let Wire::Bytes(bytes) = value else {
         return Err(ReadRefusal::BadMessage);
     };
-    let status: SpanStatus = read_part(alloc, bytes)?;
+    let status: SpanStatus = read_part(pool, bytes)?;
     *message = status.message;
     *code = status.code;
     Ok(())

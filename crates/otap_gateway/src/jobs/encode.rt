@@ -17,13 +17,14 @@ use crate::jobs::reply::Reply;
 use otap_capture::Frame;
 use otap_produce::{Exporter, ProduceRefusal};
 use otap_transit::laws::what_is_sent_arrives;
-use otlp_codec::read_request;
+use otlp_codec::RequestReader;
 use otlp_model::{Request, Signal};
 use std::alloc::{AllocError, Global};
 
 /// The job `encode` of a signal.
 #[derive(Drop)]
 pub(crate) struct EncodeJob {
+    reader: RequestReader,
     exporter: Exporter,
 }
 
@@ -32,7 +33,8 @@ impl EncodeJob {
         ensures { IfOk result (λ job. StandsFor (rows_by signal) [] [] job.exporter) }
     {
         let exporter = Exporter::new(alloc, signal)?;
-        Ok(EncodeJob { exporter })
+        let reader = RequestReader::new(alloc);
+        Ok(EncodeJob { reader, exporter })
     }
 }
 
@@ -43,12 +45,13 @@ impl Job for EncodeJob {
 
     fn step(&mut self, alloc: Global, number: u64, frame: &Frame<'_>) -> Result<Reply, AllocError> {
         what_is_sent_arrives();
-        encode_frame(alloc, &mut self.exporter, number, frame)
+        encode_frame(alloc, &mut self.reader, &mut self.exporter, number, frame)
     }
 }
 
 fn encode_frame(
     alloc: Global,
+    reader: &mut RequestReader,
     exporter: &mut Exporter,
     number: u64,
     frame: &Frame<'_>,
@@ -59,7 +62,7 @@ fn encode_frame(
     ensures signal { exporter.new.signal ≡ exporter.old.signal }
 {
     match frame {
-        Frame::Message(bytes) => encode_message(alloc, exporter, number, bytes),
+        Frame::Message(bytes) => encode_message(alloc, reader, exporter, number, bytes),
         Frame::Packed => refused(alloc, number, "Compressed"),
         Frame::Reset => {
             exporter.reset();
@@ -70,6 +73,7 @@ fn encode_frame(
 
 fn encode_message(
     alloc: Global,
+    reader: &mut RequestReader,
     exporter: &mut Exporter,
     number: u64,
     bytes: &[u8],
@@ -79,8 +83,12 @@ fn encode_message(
     ensures encodes { IfOk result (EncodesFrame (rows_by exporter.old.signal) exporter.old exporter.new number (Message bytes.now)) }
     ensures signal { exporter.new.signal ≡ exporter.old.signal }
 {
-    match read_request(alloc, exporter.signal(), bytes) {
-        Ok(request) => encode_request(alloc, exporter, number, &request),
+    match reader.read(exporter.signal(), bytes) {
+        Ok(request) => {
+            let reply = encode_request(alloc, exporter, number, &request)?;
+            reader.take_back(request);
+            Ok(reply)
+        }
         Err(refusal) => refused(alloc, number, refusal_name(refusal)?),
     }
 }

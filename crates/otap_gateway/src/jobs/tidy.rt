@@ -9,23 +9,26 @@ use crate::jobs::refused_requests::{refusal_name, refused};
 use crate::jobs::reply::Reply;
 use crate::jobs::spare::Spare;
 use otap_capture::{FRAME_HEAD, Frame};
-use otlp_codec::{put_request, read_request};
+use otlp_codec::{RequestReader, put_request};
 use otlp_model::{MAX_ITEMS, MAX_TREE_WEIGHT, Request, Signal, items, weight};
 use std::alloc::{AllocError, Global};
 
-/// The job `tidy` of a signal. It takes each frame by itself, and writes each request into the memory of an earlier reply.
+/// The job `tidy` of a signal. It takes each frame by itself, reads each request into lists of earlier ones, and writes it
+/// into the memory of an earlier reply.
 #[derive(Drop)]
 pub(crate) struct TidyJob {
     signal: Signal,
+    reader: RequestReader,
     spare: Spare,
 }
 
 impl TidyJob {
-    pub(crate) fn new(signal: Signal) -> TidyJob
+    pub(crate) fn new(alloc: Global, signal: Signal) -> TidyJob
         ensures { result.signal ≡ signal }
     {
         TidyJob {
             signal,
+            reader: RequestReader::new(alloc),
             spare: Spare::new(),
         }
     }
@@ -37,7 +40,14 @@ impl Job for TidyJob {
     ghost stands = { λ s frames replies. Unit {0} };
 
     fn step(&mut self, alloc: Global, number: u64, frame: &Frame<'_>) -> Result<Reply, AllocError> {
-        tidy_frame(alloc, self.signal, number, frame, &mut self.spare)
+        tidy_frame(
+            alloc,
+            self.signal,
+            number,
+            frame,
+            &mut self.reader,
+            &mut self.spare,
+        )
     }
 
     fn take_back(&mut self, reply: Reply) {
@@ -50,12 +60,13 @@ fn tidy_frame(
     signal: Signal,
     number: u64,
     frame: &Frame<'_>,
+    reader: &mut RequestReader,
     spare: &mut Spare,
 ) -> Result<Reply, AllocError>
     ensures { IfOk result (TidiesFrame signal number (frame_of frame.now)) }
 {
     match frame {
-        Frame::Message(bytes) => tidy_message(alloc, signal, number, bytes, spare),
+        Frame::Message(bytes) => tidy_message(alloc, signal, number, bytes, reader, spare),
         Frame::Packed => refused(alloc, number, "Compressed"),
         Frame::Reset => Reply::reset(alloc),
     }
@@ -66,12 +77,17 @@ fn tidy_message(
     signal: Signal,
     number: u64,
     bytes: &[u8],
+    reader: &mut RequestReader,
     spare: &mut Spare,
 ) -> Result<Reply, AllocError>
     ensures { IfOk result (TidiesMessage signal number bytes.now) }
 {
-    match read_request(alloc, signal, bytes) {
-        Ok(request) => tidy_request(alloc, number, &request, bytes.len(), spare),
+    match reader.read(signal, bytes) {
+        Ok(request) => {
+            let reply = tidy_request(alloc, number, &request, bytes.len(), spare)?;
+            reader.take_back(request);
+            Ok(reply)
+        }
         Err(refusal) => refused(alloc, number, refusal_name(refusal)?),
     }
 }

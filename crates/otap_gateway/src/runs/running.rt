@@ -151,7 +151,7 @@ fn run_job<S: Source, O: Sink, E: Sink>(
 {
     match job {
         Command::List => drive(alloc, &mut ListJob::new(alloc), source, out, err),
-        Command::Tidy(signal) => drive(alloc, &mut TidyJob::new(signal), source, out, err),
+        Command::Tidy(signal) => drive(alloc, &mut TidyJob::new(alloc, signal), source, out, err),
         Command::Encode(signal) => encode(alloc, signal, source, out, err),
         Command::Schema(signal) => drive(alloc, &mut SchemaJob::new(signal), source, out, err),
         Command::Show(signal) => show(alloc, signal, source, out, err),

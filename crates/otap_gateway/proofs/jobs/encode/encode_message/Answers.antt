@@ -3,10 +3,10 @@ use Rattle.otap_signals.specs.BySignal.{rows_by}
 use Rattle.otap_gateway.proofs.EncodedFrames.{frame_named, frame_read}
 use Rattle.otap_gateway.proofs.jobs.encode.encode_message.Goals as goal
 
-pub returns-in-Ok-clause-encodes : goal.returns-in-Ok-clause-encodes
-returns-in-Ok-clause-encodes c =
+pub returns-in_ok-reply-in-Ok-clause-encodes : goal.returns-in_ok-reply-in-Ok-clause-encodes
+returns-in_ok-reply-in-Ok-clause-encodes c =
     let reads = rw c.signal.ensures at c.in-Ok.ensures.reads in
-    IfOk-weaker _ _ _ (λ reply step. frame_read (rows_by c.args.exporter.now.signal) _ _ _ _ _ reply reads step) c.encode_request.ensures.encodes
+    frame_read (rows_by c.args.exporter.now.signal) _ _ _ _ _ _ reads c.in_ok-reply-in-Ok.ensures.encodes
 
 pub returns-in_ok-refusal_name-in-Err-clause-encodes : goal.returns-in_ok-refusal_name-in-Err-clause-encodes
 returns-in_ok-refusal_name-in-Err-clause-encodes c =
