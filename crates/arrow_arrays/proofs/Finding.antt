@@ -38,7 +38,7 @@ record HasValue (seen read : Option (List ℕ)) : Type 0 where
   found : seen ≡ Some value
   given : read ≡ Some value
 
-part_found : (bytes : List ℕ) (start end : ℕ) → start ≤ end → end ≤ length bytes → part_between bytes start end ≡ Some (slice_range bytes start end)
+pub part_found : (bytes : List ℕ) (start end : ℕ) → start ≤ end → end ≤ length bytes → part_between bytes start end ≡ Some (slice_range bytes start end)
 part_found bytes start end order within =
     rw (and_from (nat_le start end) (nat_le end (length bytes)) (le-leb start end order) (le-leb end (length bytes) within)) refl
 

@@ -3,6 +3,7 @@ pub mod Parts
 pub mod FaultsNamed
 pub mod Fits
 pub mod Finding
+pub mod BytesBelow
 pub mod Nested
 pub mod Walking
 pub mod Walked

@@ -1,5 +1,6 @@
 -- A column that is resolved: the bytes that its cells are found in. An offset outside these bytes gives no cell.
-use Rattle.std.specs.Prelude.{ℕ, ◌+◌, ◌*◌, nat_lt, nat_le, ◌==◌, Bool, ◌&&◌, if◌then◌else◌, List, [], length, slice_range, Option, None, Some}
+use Rattle.std.specs.Prelude.{◌≡◌, ℕ, ◌+◌, ◌*◌, ◌<◌, ⊤, ◌⊎◌, option_map, nat_lt, nat_le, ◌==◌, Bool, ◌&&◌, if◌then◌else◌, List, [], length, slice_range, Option, None, Some}
+use Rattle.byteorder.specs.Endian.{little_number}
 use Rattle.arrow_buffers.specs.Bits.{is_valid}
 use Rattle.arrow_buffers.specs.Columns.{bit_byte}
 use Rattle.arrow_buffers.specs.Offsets.{offset_at}
@@ -44,3 +45,16 @@ is_there v row = nat_lt row v.rows && is_valid_in v row
 -- THE CELL OF A ROW in a column that is resolved
 unfoldable pub cell_seen : ColumnView → ℕ → Option (List ℕ)
 cell_seen v row = if is_there v row then value_seen v.stored row else None
+
+-- the number that a cell holds, low byte first
+abbrev pub number_in : Option (List ℕ) → Option ℕ
+number_in cell = option_map (λ bytes. little_number (length bytes) bytes) cell
+
+-- a number of one byte or two
+abbrev pub IsIndexSize : List ℕ → Type 0
+IsIndexSize index = (length index ≡ 1) ⊎ (length index ≡ 2)
+
+-- the number that a cell holds is below another; null holds none
+abbrev pub HoldsBelow : ℕ → Option (List ℕ) → Type 0
+HoldsBelow count None = ⊤
+HoldsBelow count (Some cell) = little_number (length cell) cell < count

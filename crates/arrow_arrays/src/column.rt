@@ -1,12 +1,12 @@
 //! A column of a record batch that is found once, so that each of its cells is a test of bits and a
 //! slice.
 
-ghost use Rattle.std.specs.Prelude.{◌≡◌, ℕ, ◌+◌, ◌*◌, ◌<◌, ◌≤◌, true, length, None};
-ghost use Rattle.std.specs.Option.{option_copied};
+ghost use Rattle.std.specs.Prelude.{◌≡◌, ℕ, ◌+◌, ◌*◌, ◌<◌, ◌≤◌, true, length, slice_index, None};
+ghost use Rattle.std.specs.Option.{option_copied, ForSome};
 ghost use Rattle.arrow_buffers.specs.Bits.{is_valid};
 ghost use Rattle.arrow_buffers.specs.Columns.{bit_byte};
 ghost use Rattle.arrow_buffers.specs.Offsets.{offset_at};
-ghost use Rattle.arrow_arrays.specs.Views.{part_between, span_between, value_seen, has_no_bitmap, is_valid_in, cell_seen};
+ghost use Rattle.arrow_arrays.specs.Views.{part_between, span_between, value_seen, has_no_bitmap, is_valid_in, cell_seen, number_in, IsIndexSize, HoldsBelow};
 ghost use Rattle.arrow_arrays.specs.Found.{IsBelow, IsEmpty};
 
 use byteorder::{ByteOrder, LittleEndian};
@@ -85,6 +85,17 @@ impl<'a> ColumnView<'a> {
         self.rows == 0
     }
 
+    /// Whether it is known that each cell holds a number below another: where all cells are of one byte, and those of null rows
+    /// are below it too. `false` says nothing of the cells.
+    pub fn is_below(&self, count: usize) -> bool
+        ensures { result ≡ true → (row : ℕ) → HoldsBelow count (cell_seen self.now row) }
+    {
+        match self.stored {
+            Stored::One(bytes) => are_below(bytes, count),
+            _ => false,
+        }
+    }
+
     /// The bytes of a row's cell, as `cell` returns them. Where the column is known to be whole no
     /// bitmap is looked at.
     #[inline(always)]
@@ -100,6 +111,24 @@ impl<'a> ColumnView<'a> {
             return None;
         }
         self.stored.value(row)
+    }
+
+    /// The number that a row's cell of one byte or two holds, low byte first; `None` where it is null, or there is no such row.
+    /// Bitmaps are looked at as by `cell_if`.
+    #[inline(always)]
+    #[tactic(auto, unfolding(crate::specs::Views::cell_seen, crate::specs::Views::is_there))]
+    pub fn index_if(&self, row: u64, whole: bool) -> Option<usize>
+        requires whole { whole ≡ true → has_no_bitmap self.now ≡ true }
+        requires size { ForSome (cell_seen self.now row) IsIndexSize }
+        ensures { result ≡ number_in (cell_seen self.now row) }
+    {
+        if row >= self.rows {
+            return None;
+        }
+        if !whole && !self.is_valid(row) {
+            return None;
+        }
+        self.stored.index(row)
     }
 
     /// The same column below a struct, whose rows that are null are null in it.
@@ -140,6 +169,19 @@ impl<'a> Stored<'a> {
 
     #[inline(always)]
     #[tactic(auto, unfolding(crate::specs::Views::value_seen))]
+    fn index(&self, row: u64) -> Option<usize>
+        requires { ForSome (value_seen self.now row) IsIndexSize }
+        ensures { result ≡ number_in (value_seen self.now row) }
+    {
+        match *self {
+            Stored::One(bytes) => byte_at(bytes, row),
+            Stored::Two(bytes) => pair_at(bytes, row),
+            _ => number_in(self.value(row)),
+        }
+    }
+
+    #[inline(always)]
+    #[tactic(auto, unfolding(crate::specs::Views::value_seen))]
     fn value(&self, row: u64) -> Option<&'a [u8]>
         ensures { option_copied result ≡ value_seen self.now row }
     {
@@ -154,6 +196,49 @@ impl<'a> Stored<'a> {
             Stored::Spans(offsets, values, width) => span(offsets, values, width, row),
         }
     }
+}
+
+#[inline(always)]
+fn byte_at(bytes: &[u8], row: u64) -> Option<usize>
+    ensures { result ≡ number_in (part_between bytes.now (row * 1) ((row + 1) * 1)) }
+{
+    if row >= bytes.len() as u64 {
+        return None;
+    }
+    Some(usize::from(bytes[row as usize]))
+}
+
+#[inline(always)]
+fn pair_at(bytes: &[u8], row: u64) -> Option<usize>
+    ensures { result ≡ number_in (part_between bytes.now (row * 2) ((row + 1) * 2)) }
+{
+    if row >= (bytes.len() / 2) as u64 {
+        return None;
+    }
+    Some(usize::from(LittleEndian::read_u16(&bytes[2 * row as usize..])))
+}
+
+/// The number that one byte or two hold.
+fn number_in(cell: Option<&[u8]>) -> Option<usize>
+    requires { ForSome (option_copied cell) IsIndexSize }
+    ensures { result ≡ number_in (option_copied cell.entry) }
+{
+    let cell = cell?;
+    if cell.len() == 2 {
+        return Some(usize::from(LittleEndian::read_u16(cell)));
+    }
+    Some(usize::from(cell[0]))
+}
+
+/// Whether each byte is below a number. All are looked at, so that many are compared at once.
+fn are_below(bytes: &[u8], count: usize) -> bool
+    ensures { result ≡ true → (k : ℕ) → k < length bytes.now → slice_index bytes.now k < count }
+{
+    let mut greatest = 0_u8;
+    'bytes: for byte in bytes {
+        greatest = greatest.max(*byte);
+    }
+    usize::from(greatest) < count
 }
 
 /// Whether a row is valid in a bitmap. In one without bytes each row is.

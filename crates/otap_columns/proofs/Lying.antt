@@ -34,26 +34,21 @@ value_some bytes from e is = rw is refl
 -- the value at an index
 pub record IsThere (bytes : List ℕ) (from : ℕ) (ends : List End) (place : ℕ) (last : ℕ) (e : End) : Type 0 where
   pub is : get_or (values_by_ends bytes from ends) place None ≡ value_between bytes (start_of from ends place) e
+  pub begins : e.from ≡ start_of from ends place
   pub first : start_of from ends place ≤ e.place
   pub within : e.place ≤ last
 
 pub value_there : (bytes : List ℕ) (from : ℕ) (ends : List End) (place last : ℕ) (d : End) → AreEnds from ends last → place < length ends
     → IsThere bytes from ends place last (get_or ends place d)
 value_there bytes from [] place last d are below = absurd (omega (arith, below))
-value_there bytes from (e ∷ ends) zero last d are below = record { is = refl; first = are.0.after; within = first_before e.place ends last are.1 }
+value_there bytes from (e ∷ ends) zero last d are below = record { is = refl; begins = are.0.begins; first = are.0.after; within = first_before e.place ends last are.1 }
 value_there bytes from (e ∷ ends) (suc place) last d are below =
     let r : IsThere bytes e.place ends place last (get_or ends place d) = value_there bytes e.place ends place last d are.1 (omega (arith, below)) in
-    record { is = r.is; first = r.first; within = r.within }
+    record { is = r.is; begins = r.begins; first = r.first; within = r.within }
 
 -- there is none after the last one
 pub none_there : (bytes : List ℕ) (from : ℕ) (ends : List End) (place : ℕ) → length ends ≤ place → get_or (values_by_ends bytes from ends) place None ≡ None
 none_there bytes from ends place past = get_or_past (values_by_ends bytes from ends) place None (omega (arith, past, values_len bytes from ends))
-
--- where it begins
-pub start_is : (from : ℕ) (ends : List End) (place : ℕ) (d : End) → place < length ends → (get_or ends place d).place ≡ start_of from ends (suc place)
-start_is from [] place d below = absurd (omega (arith, below))
-start_is from (e ∷ ends) zero d below = refl
-start_is from (e ∷ ends) (suc place) d below = start_is e.place ends place d (omega (arith, below))
 
 -- ---- bytes that come after
 
@@ -82,17 +77,17 @@ last_none : (value : Option (List ℕ)) (old : List ℕ) (e : End) → e.place �
 last_none None old e at there none = omega (arith, at, length-append old [])
 last_none (Some value) old e at there none = absurd (cc (there, none))
 
-pub pushed : (old : List ℕ) (from : ℕ) (ends : List End) (e : End) (value : Option (List ℕ)) → AreEnds from ends (length old) → e.place ≡ length (old ++ bytes_or_none value) → e.there ≡ is_some value
+pub pushed : (old : List ℕ) (from : ℕ) (ends : List End) (e : End) (value : Option (List ℕ)) → AreEnds from ends (length old) → e.from ≡ length old → e.place ≡ length (old ++ bytes_or_none value) → e.there ≡ is_some value
     → Pushed old (old ++ bytes_or_none value) from ends (ends ++ e ∷ []) value
-pushed old from [] e value are at there =
+pushed old from [] e value are begins at there =
     let place : value_between (old ++ bytes_or_none value) from e ≡ value = ap (λ (f : ℕ). value_between (old ++ bytes_or_none value) f e) are ∙ last_value value old e at there in
     record {
       values = λ i. place i ∷ [];
-      are = (record { after = omega (arith, are, at, length-append old (bytes_or_none value)); none = λ none. last_none value old e at there none ∙ sym are }, at);
+      are = (record { begins = begins ∙ sym are; after = omega (arith, are, at, length-append old (bytes_or_none value)); none = λ none. last_none value old e at there none ∙ sym are }, at);
       count = refl;
     }
-pushed old from (f ∷ ends) e value are at there =
-    let r : Pushed old (old ++ bytes_or_none value) f.place ends (ends ++ e ∷ []) value = pushed old f.place ends e value are.1 at there in
+pushed old from (f ∷ ends) e value are begins at there =
+    let r : Pushed old (old ++ bytes_or_none value) f.place ends (ends ++ e ∷ []) value = pushed old f.place ends e value are.1 begins at there in
     let here : value_between (old ++ bytes_or_none value) from f ≡ value_between old from f = value_stays old (bytes_or_none value) from f are.0.after (first_before f.place ends (length old) are.1) in
     record {
       values = λ i. here i ∷ r.values i;

@@ -17,8 +17,9 @@ start_of from ends zero = from
 start_of from [] (suc place) = from
 start_of from (e ∷ ends) (suc place) = start_of e.place ends place
 
--- a value doesn't end before it begins, and one that is null has no bytes
+-- a value begins there, doesn't end before, and has no bytes where it is null
 pub record IsEnd (from : ℕ) (end : End) : Type 0 where
+  pub begins : end.from ≡ from
   pub after : from ≤ end.place
   pub none : end.there ≡ false → end.place ≡ from
 

@@ -1,6 +1,6 @@
 -- The values that the columns of tables had, the bytes that store them, and the form in which a column is written after them
 -- (OpenTelemetry Arrow Protocol, "Schema and Dictionary Resets"; the forms and their limits are this gateway's profile).
-use Rattle.std.specs.Prelude.{ℕ, ◌||◌, Bool, true, false, nat_lt, if◌then◌else◌, List, [], ◌∷◌, length, map, drop, codes, bytes_eq, Option, Some, None, ℤ, unsigned_abs}
+use Rattle.std.specs.Prelude.{ℕ, ◌||◌, Bool, false, nat_lt, if◌then◌else◌, List, [], ◌∷◌, length, map, drop, codes, bytes_eq, Option, Some, None, ℤ, unsigned_abs}
 use Rattle.std.specs.Int.{w32, w64, cast_unsigned}
 use Rattle.std.specs.List.{flat_map, list_any}
 use Rattle.byteorder.specs.Endian.{little_bytes}

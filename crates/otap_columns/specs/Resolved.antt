@@ -5,6 +5,7 @@ use Rattle.arrow_buffers.specs.declared.width.Width.TheVariants.{Bit}
 use Rattle.arrow_buffers.specs.Columns.{HasWidth}
 use Rattle.arrow_ipc.specs.Batches.{BatchIn}
 use Rattle.arrow_arrays.specs.declared.column.ColumnView.{ColumnView}
+pub use Rattle.arrow_arrays.specs.Views.{IsIndexSize}
 use Rattle.arrow_arrays.specs.Views.{has_no_bitmap, cell_seen}
 use Rattle.otap_cells.specs.declared.payload.Kind.{Kind}
 use Rattle.otap_cells.specs.Cells.{IsCellOf}
@@ -36,10 +37,6 @@ FitsBase base.Duration value = length value ≡ 8
 FitsBase base.ListU64 value = length value % 8 ≡ 0
 FitsBase base.ListF64 value = length value % 8 ≡ 0
 FitsBase (base.Id wide) value = (length value ≡ 2) ⊎ (length value ≡ 4)
-
--- the bytes that an index is stored in
-abbrev pub IsIndexSize : List ℕ → Type 0
-IsIndexSize index = (length index ≡ 1) ⊎ (length index ≡ 2)
 
 -- a cell, or the value to which it leads as an index
 abbrev pub led_to : Option DictionaryIn → Option (List ℕ) → Option (List ℕ)

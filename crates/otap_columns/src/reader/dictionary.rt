@@ -161,9 +161,10 @@ impl Dictionary {
         ensures err { OnErr result (self.new ≡ self.old) }
     {
         self.ends.reserve(1)?;
+        let from = self.bytes.len();
         let there = keep(&mut self.bytes, value)?;
         let place = self.bytes.len();
-        self.ends.push(End { place, there })?;
+        self.ends.push(End { from, place, there })?;
         Ok(())
     }
 }

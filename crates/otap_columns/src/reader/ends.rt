@@ -1,19 +1,20 @@
 //! Where the values of a dictionary lie in its bytes: each begins where the one before it ends.
 
-ghost use Rattle.std.specs.Prelude.{◌≡◌, ◌-◌, ◌<◌, ◌≤◌, ◌++◌, take, drop, is_some, length, vec_len, IfOk, OnOk, OnErr};
+ghost use Rattle.std.specs.Prelude.{◌≡◌, ◌-◌, ◌≤◌, ◌++◌, take, drop, is_some, length, vec_len, IfOk, OnOk, OnErr};
 ghost use Rattle.std.specs.List.{slice_index_or};
 ghost use Rattle.std.specs.Option.{option_copied};
 ghost use Rattle.otap_columns.specs.Limits.{kept_limit};
-ghost use Rattle.otap_columns.specs.Ends.{AreEnds, values_by_ends, start_of, bytes_or_none};
+ghost use Rattle.otap_columns.specs.Ends.{AreEnds, values_by_ends, bytes_or_none};
 
 use std::alloc::AllocError;
 
 /// The most bytes that the values of a dictionary have together. No memory is so large.
 pub(crate) const MAX_KEPT: usize = 1 << 48;
 
-/// Where a value ends, and whether it is valid: one that is null has no bytes.
+/// Where a value begins and ends, and whether it is valid: one that is null has no bytes.
 #[derive(Clone, Copy, Debug)]
 pub(crate) struct End {
+    pub(crate) from: usize,
     pub(crate) place: usize,
     pub(crate) there: bool,
 }
@@ -30,7 +31,7 @@ pub(crate) fn value_in<'v>(bytes: &'v [u8], ends: &[End], place: usize) -> Optio
     if !end.there {
         return None;
     }
-    Some(part(bytes, start(ends, place), end.place))
+    Some(part(bytes, end.from, end.place))
 }
 
 fn part(bytes: &[u8], from: usize, to: usize) -> &[u8]
@@ -39,18 +40,6 @@ fn part(bytes: &[u8], from: usize, to: usize) -> &[u8]
     ensures { result.now ≡ take (to - from) (drop from bytes.now) }
 {
     &bytes[from..to]
-}
-
-/// Where the value at an index begins.
-fn start(ends: &[End], place: usize) -> usize
-    requires { place < length ends.now }
-    ensures { result ≡ start_of 0 ends.now place }
-{
-    if place == 0 {
-        return 0;
-    }
-    let before = ends[place - 1];
-    before.place
 }
 
 /// Appends the bytes of a value, and whether it is valid. Where there would be too many bytes, it returns out of memory.

@@ -48,6 +48,9 @@ fn are_below(column: &ColumnView<'_>, rows: u64, count: usize) -> bool
     requires { HasIndexSizes column.now }
     ensures { result ≡ all_below (λ row. is_index_below count (cell_seen column.now row)) rows }
 {
+    if column.is_below(count) {
+        return true;
+    }
     let whole = column.is_whole();
     'rows: for row in 0..rows {
         if !is_below(column.cell_if(row, whole), count) {

@@ -7,7 +7,7 @@ ghost use Rattle.otap_columns.specs.Resolved.{FitsBase, resolved_value, HasIndex
 ghost use Rattle.otap_columns.specs.Parts.{bytes_of_cell};
 ghost use Rattle.otap_columns.specs.Substreams.{value_by_index};
 
-use crate::reader::cells::{self, index};
+use crate::reader::cells;
 use crate::reader::dictionary::Dictionary;
 use arrow_arrays::ColumnView;
 use otap_cells::{Base, CellView};
@@ -88,10 +88,9 @@ impl<'v> ResolvedColumn<'v> {
         requires { IsResolved self.now }
         ensures { option_copied result ≡ resolved_value self.now row }
     {
-        let stored = self.stored.cell_if(row, self.whole)?;
         match self.dictionary {
-            None => Some(stored),
-            Some(dictionary) => dictionary.value(index(stored)),
+            None => self.stored.cell_if(row, self.whole),
+            Some(dictionary) => dictionary.value(self.stored.index_if(row, self.whole)?),
         }
     }
 

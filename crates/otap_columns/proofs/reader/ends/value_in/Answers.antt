@@ -7,7 +7,7 @@ use Rattle.otap_columns.proofs.Lying.{value_none, value_some, IsThere, value_the
 use Rattle.otap_columns.proofs.reader.ends.value_in.Goals as goal
 
 abbrev gone : End
-gone = record { place = 0; there = false }
+gone = record { from = 0; place = 0; there = false }
 
 pub returns-then-place-ends : goal.returns-then-place-ends
 returns-then-place-ends c = sym (none_there c.args.bytes.now 0 c.args.ends.now c.args.place (omega arith))
@@ -23,7 +23,7 @@ pub part-requires-clause-order : goal.part-requires-clause-order
 part-requires-clause-order c =
     let t : IsThere c.args.bytes.now 0 c.args.ends.now c.args.place (length c.args.bytes.now) (slice_index_or c.args.ends.now c.args.place gone) =
     value_there c.args.bytes.now 0 c.args.ends.now c.args.place (length c.args.bytes.now) gone c.requires (omega arith) in
-    omega (arith, t.first, c.start.ensures)
+    omega (arith, t.first, t.begins)
 
 pub part-requires-clause-within : goal.part-requires-clause-within
 part-requires-clause-within c =
@@ -35,5 +35,5 @@ returns c =
     value_there c.args.bytes.now 0 c.args.ends.now c.args.place (length c.args.bytes.now) gone c.requires (omega arith) in
     let there : (slice_index_or c.args.ends.now c.args.place gone).there ≡ true = not-false (slice_index_or c.args.ends.now c.args.place gone).there c.if-not-end.false in
     ap Some c.part.ensures
-    ∙ (λ i. Some (take ((slice_index_or c.args.ends.now c.args.place gone).place - c.start.ensures i) (drop (c.start.ensures i) c.args.bytes.now)))
+    ∙ (λ i. Some (take ((slice_index_or c.args.ends.now c.args.place gone).place - t.begins i) (drop (t.begins i) c.args.bytes.now)))
     ∙ sym (t.is ∙ value_some c.args.bytes.now (start_of 0 c.args.ends.now c.args.place) (slice_index_or c.args.ends.now c.args.place gone) there)

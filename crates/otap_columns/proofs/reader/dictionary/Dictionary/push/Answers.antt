@@ -9,12 +9,13 @@ use Rattle.otap_columns.proofs.reader.dictionary.Dictionary.push.Goals as goal
 
 grown_to : (c : goal.In_ok-push) → Pushed c.self.inside.bytes.items c.keep.new.kept.items 0 c.self.inside.ends.items c.push.new.self.items (option_copied c.args.value)
 grown_to c =
-    let ends : c.push.new.self.items ≡ c.self.inside.ends.items ++ record { place = c.len-place.result; there = c.in_ok-there.there } ∷ [] = grind (arith, common_steps, c.in_ok-push.ensures.items) in
+    let ends : c.push.new.self.items ≡ c.self.inside.ends.items ++ record { from = c.len-from.result; place = c.len-place.result; there = c.in_ok-there.there } ∷ [] = grind (arith, common_steps, c.in_ok-push.ensures.items) in
     let bytes : c.keep.new.kept.items ≡ c.self.inside.bytes.items ++ bytes_or_none (option_copied c.args.value) = c.in_ok-there.ensures.bytes in
+    let begins : c.len-from.result ≡ length c.self.inside.bytes.items = omega (arith, c.len-from.ensures) in
     let place : c.len-place.result ≡ length (c.self.inside.bytes.items ++ bytes_or_none (option_copied c.args.value)) = omega (arith, c.len-place.ensures, ap length bytes, c.keep.new.kept.ok.0) in
     subst (λ (bs : List ℕ). Pushed c.self.inside.bytes.items bs 0 c.self.inside.ends.items c.push.new.self.items (option_copied c.args.value)) (sym bytes)
     (subst (λ (es : List End). Pushed c.self.inside.bytes.items (c.self.inside.bytes.items ++ bytes_or_none (option_copied c.args.value)) 0 c.self.inside.ends.items es (option_copied c.args.value)) (sym ends)
-    (pushed c.self.inside.bytes.items 0 c.self.inside.ends.items (record { place = c.len-place.result; there = c.in_ok-there.there }) (option_copied c.args.value) c.self.invariant.ends place c.in_ok-there.ensures.there))
+    (pushed c.self.inside.bytes.items 0 c.self.inside.ends.items (record { from = c.len-from.result; place = c.len-place.result; there = c.in_ok-there.there }) (option_copied c.args.value) c.self.invariant.ends begins place c.in_ok-there.ensures.there))
 
 pub invariant_of-self-2 : goal.invariant_of-self-2
 invariant_of-self-2 c =
