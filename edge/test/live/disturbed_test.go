@@ -69,7 +69,7 @@ func TestChildrenKilled(t *testing.T) {
 	if len(l.acked) != total {
 		t.Errorf("%d of %d were acknowledged", len(l.acked), total)
 	}
-	if x.near.count(`msg="stream ended"`) < 2 {
+	if x.near.count(streamEnded) < 2 {
 		t.Error("near's stream didn't end twice")
 	}
 }

@@ -112,7 +112,10 @@ type load struct {
 // times is a load of so many requests.
 func times(n int) func(int) bool { return func(i int) bool { return i < n } }
 
-const streamOpen = `msg="stream open"`
+const (
+	streamOpen  = `msg="stream open"`
+	streamEnded = `msg="stream ended"`
+)
 
 func (l *load) begin() (done chan struct{}) {
 	if l.acked == nil {

@@ -157,6 +157,27 @@ func (p *process) said(pattern string, times int) string {
 	}
 }
 
+// until waits until what it is to do is so, which is asked anew after each line.
+func (p *process) until(what string, so func() bool) {
+	p.t.Helper()
+	over := time.After(limit)
+	for {
+		p.mu.Lock()
+		grew := p.grew
+		p.mu.Unlock()
+		if so() {
+			return
+		}
+		select {
+		case <-grew:
+		case <-p.done:
+			p.t.Fatalf("%s ended (%v) and didn't %s", p.name, p.err, what)
+		case <-over:
+			p.t.Fatalf("%s didn't %s within %v", p.name, what, limit)
+		}
+	}
+}
+
 // count says how many lines match so far.
 func (p *process) count(pattern string) int {
 	match := regexp.MustCompile(pattern)

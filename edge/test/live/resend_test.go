@@ -60,25 +60,33 @@ func TestFarKilledUnseen(t *testing.T) {
 	}
 }
 
-// TestStreamsCutUnseen cuts the connections of near's four streams three times under load, while both ends go on.
+// TestStreamsCutUnseen cuts the connections of near's four streams three times under load, while both ends go on. gRPC itself
+// opens a stream again that the far end hasn't seen by the cut, and near says nothing of that: so not each stream ends at each
+// cut, but some do.
 func TestStreamsCutUnseen(t *testing.T) {
 	t.Parallel()
-	const streams, total = 4, 600
+	const streams, between = 4, 120
 	x := newResending(t, newBackend(t, nil, nil), "--streams", fmt.Sprint(streams))
-	x.near.said(streamOpen, streams)
-	l := x.load(32, 100, times(total))
+	var enough int32
+	l := x.load(32, 100, func(int) bool { return atomic.LoadInt32(&enough) == 0 })
 	done := l.begin()
 	for k := 1; k <= 3; k++ {
-		l.reached(total * k / 5)
+		x.near.until("have all its streams open", func() bool {
+			return x.near.count(streamOpen)-x.near.count(streamEnded) == streams
+		})
+		l.reached(l.count() + between)
+		ended := x.near.count(streamEnded)
 		if n := x.relay.cut(); n < streams {
 			t.Errorf("there were only %d connections to cut", n)
 		}
-		fell(t, l, total)
-		x.near.said(streamOpen, (k+1)*streams)
+		fell(t, l, 1<<30)
+		x.near.said(streamEnded, ended+1)
 	}
+	l.reached(l.count() + between)
+	atomic.StoreInt32(&enough, 1)
 	l.finish(done)
 	x.end(l)
-	unseen(t, l, total)
+	unseen(t, l, l.next)
 }
 
 // TestStatusesLateUnseen cuts near's connection while the backend has a whole window of long requests, and lets the backend
@@ -120,7 +128,7 @@ func TestFarTermedUnseen(t *testing.T) {
 	l.reached(total / 4)
 	x.far.term()
 	fell(t, l, total)
-	x.near.said(`msg="stream ended"`, 3)
+	x.near.said(streamEnded, 3)
 	x.startFar()
 	l.finish(done)
 	x.end(l)
@@ -217,7 +225,7 @@ func TestResendingChildKilled(t *testing.T) {
 	for _, pid := range x.near.children() {
 		syscall.Kill(pid, syscall.SIGKILL)
 	}
-	x.near.said(`msg="stream ended"`, 1)
+	x.near.said(streamEnded, 1)
 	fell(t, l, total)
 	close(killed)
 	l.finish(done)
