@@ -16,8 +16,9 @@ const BUFFER: usize = 1 << 16;
 /// The status where there is no memory to begin with.
 const NO_MEMORY: u8 = 6;
 
-/// How many bytes are asked for and given back at the start, so that freed memory is kept.
-const FIRST_ROOM: usize = 1 << 23;
+/// How many bytes are asked for and given back at the start, so that freed memory is kept: a little less than 32 MiB, above which
+/// the C library no longer learns from it.
+const FIRST_ROOM: usize = 31 << 20;
 
 fn main(rt: HostRuntime) -> ExitCode {
     ExitCode::from(start(&rt).unwrap_or(NO_MEMORY))
@@ -35,8 +36,8 @@ fn start(rt: &HostRuntime) -> Result<u8, AllocError> {
 }
 
 /// Has the C library keep room that is freed, for what is asked for later. Otherwise each request's room goes back to the
-/// operating system, and comes again page by page. It keeps up to twice the largest room that was given back (mallopt(3),
-/// M_MMAP_THRESHOLD). No page of the room that is asked for here is touched, and nothing depends on getting it.
+/// operating system, and comes again page by page. It keeps up to twice the largest room that was given back, of up to 32 MiB
+/// (mallopt(3), M_MMAP_THRESHOLD). No page of the room that is asked for here is touched, and nothing depends on getting it.
 fn keep_freed_room(alloc: Global) {
     let _room = Vec::<u8>::with_capacity(alloc, FIRST_ROOM);
 }
