@@ -1,5 +1,5 @@
 -- A table's weight, row by row and column by column.
-use Rattle.std.proofs.Common.{◌≡◌, ℕ, suc, ◌+◌, ◌*◌, ◌^◌, ◌<◌, false, List, [], ◌∷◌, length, get_or, take, min, map, refl, sym, ◌∙◌, ap, arith}
+use Rattle.std.proofs.Common.{◌≡◌, ℕ, suc, ◌+◌, ◌*◌, ◌^◌, ◌<◌, ◌≤◌, false, List, [], ◌∷◌, length, get_or, take, min, map, refl, sym, ◌∙◌, ap, arith}
 use Rattle.std.specs.Prelude.{All, sum_by}
 use Rattle.std.specs.List.{range_with_len}
 use Rattle.std.proofs.lemmas.List.Sums.{sum_by-cons, sum_by_more}
@@ -104,6 +104,21 @@ pub columns_end : (t : Table) (column total : ℕ) → IsTable t → column ≡ 
 columns_end t column total sound all so_far =
     so_far ∙ ap (λ n. min (32 * length t.rows + column_weights (map (column_in t.rows) (range_with_len 0 n))) (2 ^ 63)) all
     ∙ ap (λ n. min n (2 ^ 63)) (sym (weight_by_columns t sound))
+
+-- the same of numbers of bytes that columns don't exceed
+pub columns_go_up : (rows : List (List Cell)) (column first total b later : ℕ)
+    → min (first + column_weights (map (column_in rows) (range_with_len 0 column))) (2 ^ 63) ≤ total
+    → min (sum_by cell_weight (column_in rows column)) (2 ^ 63) ≤ b → later ≡ min (total + b) (2 ^ 63)
+    → min (first + column_weights (map (column_in rows) (range_with_len 0 (column + 1)))) (2 ^ 63) ≤ later
+columns_go_up rows column first total b later so_far weighs added = omega (arith, so_far, weighs, added, columns_more rows column)
+
+pub columns_within : (t : Table) (column total : ℕ) → IsTable t → column ≡ width_of t.kind
+    → min (32 * length t.rows + column_weights (map (column_in t.rows) (range_with_len 0 column))) (2 ^ 63) ≤ total → min (weight_of_table t) (2 ^ 63) ≤ total
+columns_within t column total sound all so_far =
+    let same : min (weight_of_table t) (2 ^ 63) ≡ min (32 * length t.rows + column_weights (map (column_in t.rows) (range_with_len 0 column))) (2 ^ 63) =
+    ap (λ n. min n (2 ^ 63)) (weight_by_columns t sound)
+    ∙ ap (λ n. min (32 * length t.rows + column_weights (map (column_in t.rows) (range_with_len 0 n))) (2 ^ 63)) (sym all) in
+    omega (arith, same, so_far)
 
 -- a column of a base without bytes weighs nothing
 no_bytes_in : (holds : Base) → holds_bytes holds ≡ false → (cells : List Cell) → All (IsCellOf holds) cells → sum_by cell_weight cells ≡ 0

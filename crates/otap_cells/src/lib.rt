@@ -38,4 +38,4 @@ pub use rows::Rows;
 pub use scalars::{bits_cell, flag_cell, int_cell, number_cell, octets_cell, text_cell};
 pub use sets::TableSet;
 pub use view::CellView;
-pub use weight::{MAX_ROW_WEIGHT, ROW_UNIT, row_weight};
+pub use weight::{MAX_ROW_WEIGHT, ROW_UNIT, is_light, row_weight};

@@ -167,6 +167,10 @@ impl Rows for LogicalTable {
         self.reach(column) == 0
     }
 
+    fn most_bytes(&self, _column: u32) -> Option<u64> {
+        None
+    }
+
     fn coding(&self, column: u32) -> Coding {
         coding_of(self.kind, column)
     }

@@ -1,7 +1,8 @@
-ghost use Rattle.std.specs.Prelude.{◌≡◌, ◌<◌, true, length};
+ghost use Rattle.std.specs.Prelude.{◌≡◌, ◌<◌, ◌≤◌, true, length, sum_by, IfSome};
 ghost use Rattle.otap_cells.specs.Cells.{seen, IsCellOf};
 ghost use Rattle.otap_cells.specs.Columns.{base_at, is_id_at, width_of};
-ghost use Rattle.otap_cells.specs.Tables.{Table, IsNullColumn, IsTable, cell_in, coding_in, greatest_in};
+ghost use Rattle.otap_cells.specs.Tables.{Table, IsNullColumn, IsTable, cell_in, column_in, coding_in, greatest_in};
+ghost use Rattle.otap_cells.specs.Weights.{cell_weight};
 
 use crate::payload::Kind;
 use crate::profile::Coding;
@@ -32,6 +33,12 @@ pub trait Rows {
     fn lacks(&self, column: u32) -> bool
         requires { column < width_of (table self.now).kind }
         ensures { result ≡ true → IsNullColumn (table self.now).rows column };
+
+    /// A number of bytes that the cells of a column don't exceed together, where one is known without looking at them. In constant
+    /// time.
+    fn most_bytes(&self, column: u32) -> Option<u64>
+        requires { column < width_of (table self.now).kind }
+        ensures { IfSome result (λ most. sum_by cell_weight (column_in (table self.now).rows column) ≤ most) };
 
     /// How the ids of a column are stored: in a way that the column allows.
     fn coding(&self, column: u32) -> Coding

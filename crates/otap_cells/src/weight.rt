@@ -1,4 +1,4 @@
-ghost use Rattle.std.specs.Prelude.{◌≡◌, ◌<◌, min, sum_by};
+ghost use Rattle.std.specs.Prelude.{◌≡◌, ◌<◌, ◌≤◌, true, min, sum_by};
 ghost use Rattle.otlp_model.specs.Limits.{count_cap};
 ghost use Rattle.otap_cells.specs.Cells.{seen};
 ghost use Rattle.otap_cells.specs.Columns.{width_of};
@@ -27,6 +27,40 @@ pub fn row_weight<R: Rows>(set: &TableSet<R>) -> u64
         total = add_capped(total, table_weight(rows));
     }
     total
+}
+
+/// Whether it is known that a set of tables weighs at most a limit: its cells are looked at only in columns whose bytes have no
+/// known limit. `false` says nothing.
+pub fn is_light<R: Rows>(set: &TableSet<R>, limit: u64) -> bool
+    requires { limit < count_cap }
+    ensures { result ≡ true → weight_of_tables set.now ≤ limit }
+{
+    let mut total = 0;
+    'tables: for (_, rows) in &set.tables {
+        total = add_capped(total, most_weight(rows));
+    }
+    total <= limit
+}
+
+fn most_weight<R: Rows>(rows: &R) -> u64
+    ensures { min (weight_of_table (R.table rows.now)) count_cap ≤ result }
+{
+    let width = columns(rows.kind()).len();
+    let mut total = rows.rows().saturating_mul(ROW_UNIT).min(CAP);
+    'columns: for column in 0..width {
+        total = add_capped(total, most_in_column(rows, column as u32));
+    }
+    total
+}
+
+fn most_in_column<R: Rows>(rows: &R, column: u32) -> u64
+    requires { column < width_of (R.table rows.now).kind }
+    ensures { min (sum_by cell_weight (column_in (R.table rows.now).rows column)) count_cap ≤ result }
+{
+    match rows.most_bytes(column) {
+        Some(most) => most.min(CAP),
+        None => column_weight(rows, column),
+    }
 }
 
 fn table_weight<R: Rows>(rows: &R) -> u64

@@ -1,8 +1,8 @@
 -- Columns that are found once: used in an invariant and in private contracts.
-use Rattle.std.specs.Prelude.{◌≡◌, ℕ, ◌<◌, ⊤, true, List, Option, None, Some, length, slice_get, ◌%◌, ◌⊎◌, IsUtf8}
+use Rattle.std.specs.Prelude.{◌≡◌, ℕ, ◌*◌, ◌<◌, ◌≤◌, ⊤, true, List, Option, None, Some, length, slice_get, ◌%◌, ◌⊎◌, IsUtf8}
 use Rattle.std.specs.Option.{ForSome, option_copied}
 use Rattle.arrow_buffers.specs.declared.width.Width.TheVariants.{Bit}
-use Rattle.arrow_buffers.specs.Columns.{HasWidth}
+use Rattle.arrow_buffers.specs.Columns.{HasWidth, cell_len}
 use Rattle.arrow_ipc.specs.Batches.{BatchIn}
 use Rattle.arrow_arrays.specs.declared.column.ColumnView.{ColumnView}
 pub use Rattle.arrow_arrays.specs.Views.{IsIndexSize}
@@ -81,3 +81,9 @@ pub record ShowsColumn (t : Table) (column : ℕ) (c : ResolvedColumn) : Type 0 
   pub holds : (row : ℕ) → IsCellOf (base_at t.kind column) (cell_in t.rows column row)
   pub fits : (row : ℕ) → ForSome (resolved_value c row) (FitsBase c.base)
   pub resolved : IsResolved c
+
+-- so many rows of a column have no more than so many bytes together, since none of them has more than so many
+pub record AtMost (c : ResolvedColumn) (rows most : ℕ) : Type 0 where
+  pub each : ℕ
+  pub bytes : (row : ℕ) → cell_len (resolved_value c row) ≤ each
+  pub all : rows * each ≤ most

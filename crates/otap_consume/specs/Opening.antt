@@ -92,12 +92,12 @@ IsLateDefect signal past payloads cause payload =
     IsOfSize (AreTooLarge signal past payloads) cause payload
     ⊎ (AreWithinLimits signal past payloads × IsDefectOfRows (meaning_by signal) (tables_of signal past payloads) cause payload)
 
--- THE PAYLOADS THAT WERE OPENED LAST ARE CHECKED, whichever came before them: their tables, with which nothing is wrong, their row
--- weight, and the tree weight of the request that they make
+-- THE PAYLOADS THAT WERE OPENED LAST ARE CHECKED, whichever came before them: their tables, with which nothing is wrong, and
+-- the tree weight of the request that they make
 pub record IsChecked (signal : Signal) (streams : List StreamIn) (payloads : List PayloadIn) (made : Checked) : Type 0 where
   pub tables : (past : List PayloadIn) → AreAfter (past ++ payloads) streams → made.tables ≡ tables_of signal past payloads
   pub within : (past : List PayloadIn) → AreAfter (past ++ payloads) streams → AreWithinLimits signal past payloads
-  pub limits : WithinLimits signal made.tables made.rows
+  pub limits : WithinLimits signal made.tables (weight_of_tables made.tables)
   pub fine : HasFineRows (meaning_by signal) made.tables
   pub tree : made.tree ≡ weight_of (request_in signal made.tables)
 

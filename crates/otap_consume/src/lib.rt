@@ -28,4 +28,4 @@ pub use receiver::Receiver;
 pub use refusal::{Cause, MAX_HELD, Refusal};
 pub use seen::Seen;
 pub use segment::Segment;
-pub use taken::Taken;
+pub use taken::{Given, Taken};

@@ -22,12 +22,10 @@ pub struct Weighed<'v> {
     pub rows: u64,
 }
 
-/// The tables of a batch with which nothing is wrong, one for each payload, and what they weigh.
+/// The tables of a batch with which nothing is wrong, one for each payload, and what their request weighs.
 #[derive(Drop)]
 pub struct Checked<'v> {
     pub tables: TableSet<RowsView<'v>>,
-    /// The row weight, not a number of rows.
-    pub rows: u64,
     /// The tree weight of the request that the tables make.
     pub tree: u64,
 }

@@ -4,10 +4,11 @@ ghost use Rattle.lists.specs.Payloads.{PayloadIn};
 ghost use Rattle.otap_capture.specs.Capture.{frame_of};
 ghost use Rattle.otap_signals.specs.BySignal.{meaning_by};
 ghost use Rattle.otap_signals.specs.Regroups.{IsLight, IsRegrouped};
+ghost use Rattle.otap_consume.specs.declared.taken.Given.TheVariants as given;
 ghost use Rattle.otap_consume.specs.declared.taken.Taken.TheVariants as taken;
 ghost use Rattle.otap_consume.specs.LateStages.{IsDefectOfRows};
 ghost use Rattle.otap_consume.specs.Opening.{HasLateDefect};
-ghost use Rattle.otap_consume.specs.ReceiverInside.{MakesRequest, ReceivesOpened};
+ghost use Rattle.otap_consume.specs.ReceiverInside.{GivesOpened, MakesRequest, MakesUnweighed, ReceivesOpened};
 ghost use Rattle.otap_consume.specs.Segments.{CanShow};
 ghost use Rattle.otap_consume.specs.Streams.{AreAfter};
 ghost use Rattle.otap_consume.specs.Untaken.{SaysDefect};
@@ -15,7 +16,7 @@ ghost use Rattle.otap_consume.specs.Untaken.{SaysDefect};
 use crate::not_taken::NotTaken;
 use crate::opened::Opened;
 use crate::segment::Segment;
-use crate::taken::Taken;
+use crate::taken::{Given, Taken};
 use otap_capture::{Batch, Frame};
 use otap_cells::TableSet;
 use otap_columns::RowsView;
@@ -41,7 +42,7 @@ impl Model for Receiver {
 }
 
 impl Receiver {
-    ghost use Rattle.otap_consume.specs.Receivers.{Receives, HasLightRequest};
+    ghost use Rattle.otap_consume.specs.Receivers.{Gives, GivesLightRequest, Receives, HasLightRequest};
     ghost use Rattle.otap_consume.specs.Segments.{IsNew};
 
     /// A receiver of a signal that has taken no frame.
@@ -65,6 +66,21 @@ impl Receiver {
             Opened::Batch(batch) => self.take_batch(&batch),
             Opened::Refused(refusal) => Ok(Taken::Refused(refusal)),
             Opened::Reset => Ok(Taken::Reset),
+        }
+    }
+
+    /// Takes the next frame as [`Receiver::take`] does. Of a batch it returns the id and the request alone: of its row weight it is
+    /// only found out whether it is within the limit.
+    pub fn request(&mut self, frame: &Frame<'_>) -> Result<Given, AllocError>
+        ensures next { IfOk result (Gives (meaning_by self.old.signal) self.old (frame_of frame.now) self.new) }
+        ensures light { IfOk result GivesLightRequest }
+        ensures memory { OnErr result (self.new.broken ≡ true) }
+        ensures signal { self.new.signal ≡ self.old.signal }
+    {
+        match self.segment.open(frame)? {
+            Opened::Batch(batch) => self.request_batch(&batch),
+            Opened::Refused(refusal) => Ok(Given::Refused(refusal)),
+            Opened::Reset => Ok(Given::Reset),
         }
     }
 
@@ -95,6 +111,20 @@ impl Receiver {
             Err(why) => Ok(Taken::Refused(self.segment.refuse_batch(batch, why)?)),
         }
     }
+
+    /// Takes a batch that the segment opened last, for its request.
+    fn request_batch(&mut self, batch: &Batch<'_>) -> Result<Given, AllocError>
+        requires { CanShow self.old.streams batch.now.payloads }
+        ensures gives { IfOk result (GivesOpened batch.now self.old self.new) }
+        ensures light { IfOk result GivesLightRequest }
+        ensures memory { OnErr result (self.new.broken ≡ true) }
+        ensures signal { self.new.signal ≡ self.old.signal }
+    {
+        match kept_of(self.alloc, &self.segment, batch) {
+            Ok(kept) => Ok(given(batch, kept)),
+            Err(why) => Ok(Given::Refused(self.segment.refuse_batch(batch, why)?)),
+        }
+    }
 }
 
 /// What is made of a batch: its row weight, and its request.
@@ -120,6 +150,17 @@ fn made_of(alloc: Global, segment: &Segment, batch: &Batch<'_>) -> Result<Made, 
     })
 }
 
+/// The request of the batch that the segment opened last.
+fn kept_of(alloc: Global, segment: &Segment, batch: &Batch<'_>) -> Result<Regrouped, NotTaken>
+    requires { CanShow segment.now.streams batch.now.payloads }
+    ensures makes { IfOk result (MakesUnweighed segment.now.signal segment.now.streams batch.now.payloads) }
+    ensures light { IfOk result IsLight }
+    ensures stops { IfErr result (HasLateDefect segment.now.signal segment.now.streams batch.now.payloads) }
+{
+    let tables = segment.within(batch)?;
+    regroup(alloc, segment.signal(), &tables)
+}
+
 /// The request of the tables of a batch.
 fn regroup(
     alloc: Global,
@@ -132,6 +173,15 @@ fn regroup(
 {
     let kept = otap_signals::regroup(alloc, signal, set)?;
     Ok(kept)
+}
+
+fn given(batch: &Batch<'_>, kept: Regrouped) -> Given
+    ensures { result ≡ given.Accepted batch.now.id kept.request }
+{
+    Given::Accepted {
+        id: batch.id(),
+        request: kept.request,
+    }
 }
 
 fn accepted(batch: &Batch<'_>, made: Made) -> Taken

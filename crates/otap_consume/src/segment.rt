@@ -2,6 +2,7 @@
 ghost use Rattle.std.specs.Prelude.{◌≡◌, ◌++◌, List, map, None, Some, IfOk, IfErr, OnErr, true, false, if◌then◌else◌};
 ghost use Rattle.lists.specs.Payloads.{PayloadIn};
 ghost use Rattle.otap_capture.specs.Capture.{Message, frame_of};
+ghost use Rattle.otap_cells.specs.Weights.{weight_of_tables};
 ghost use Rattle.otap_consume.specs.declared.seen.Seen.TheVariants as seen;
 ghost use Rattle.otap_consume.specs.Opening.{HasLateDefect, IsChecked, IsOverLimit, IsWeighed, Opens, Weighs, refusal_by};
 ghost use Rattle.otap_consume.specs.Outcomes.{refusal_of, unread_cause};
@@ -15,10 +16,10 @@ use crate::opened::{Checked, Opened, Weighed};
 use crate::refusal::{Cause, Refusal};
 use crate::seen::Seen;
 use crate::stream::Stream;
-use crate::taking::{open_payloads, weighed};
+use crate::taking::{open_payloads, within};
 use crate::views::views;
 use otap_capture::{Batch, BatchRefusal, Frame, read_batch};
-use otap_cells::{TableSet, kinds};
+use otap_cells::{TableSet, kinds, row_weight};
 use otap_columns::RowsView;
 use otlp_model::Signal;
 use std::alloc::{AllocError, Global};
@@ -108,20 +109,32 @@ impl Segment {
         ensures weighs { IfOk result (IsWeighed self.now.signal self.now.streams batch.now.payloads) }
         ensures stops { IfErr result (IsOverLimit self.now.signal self.now.streams batch.now.payloads) }
     {
-        weighed(self.alloc, self.signal, &self.streams, batch)
+        let tables = self.within(batch)?;
+        let rows = row_weight(&tables);
+        Ok(Weighed { tables, rows })
     }
 
-    /// The tables of the batch that the last call of `open` returned, one for each payload, with their row weight and the tree
-    /// weight of their request, which isn't built. Where the batch is too large, something is wrong with its rows, or its
+    /// The tables of the batch that the last call of `open` returned, one for each payload, where it is within the limits. Of their
+    /// row weight only that is found out.
+    pub fn within<'v>(&'v self, batch: &Batch<'v>) -> Result<TableSet<RowsView<'v>>, NotTaken>
+        requires { CanShow self.now.streams batch.now.payloads }
+        ensures within { IfOk result (λ set. IsWeighed self.now.signal self.now.streams batch.now.payloads (record { tables = set; rows = weight_of_tables set })) }
+        ensures stops { IfErr result (IsOverLimit self.now.signal self.now.streams batch.now.payloads) }
+    {
+        within(self.alloc, self.signal, &self.streams, batch)
+    }
+
+    /// The tables of the batch that the last call of `open` returned, one for each payload, with the tree weight of their request,
+    /// which isn't built. Where the batch is too large, something is wrong with its rows, or its
     /// request weighs too much, this says so, in the causes of a receiver.
     pub fn check<'v>(&'v self, batch: &Batch<'v>) -> Result<Checked<'v>, NotTaken>
         requires { CanShow self.now.streams batch.now.payloads }
         ensures checks { IfOk result (IsChecked self.now.signal self.now.streams batch.now.payloads) }
         ensures stops { IfErr result (HasLateDefect self.now.signal self.now.streams batch.now.payloads) }
     {
-        let Weighed { tables, rows } = self.weigh(batch)?;
+        let tables = self.within(batch)?;
         let tree = tree_within(self.alloc, self.signal(), &tables)?;
-        Ok(Checked { tables, rows, tree })
+        Ok(Checked { tables, tree })
     }
 
     /// Breaks the segment, and returns the refusal of the batch that was opened last. Out of memory is passed on.

@@ -1,22 +1,24 @@
 //! How much a batch has, weighs and holds as a whole.
-ghost use Rattle.std.specs.Prelude.{◌≡◌, All, length, sum_by, min, nat_lt, MatchResult};
+ghost use Rattle.std.specs.Prelude.{◌≡◌, All, length, sum_by, min, nat_lt, IfErr, OnOk};
 ghost use Rattle.otlp_model.specs.Limits.{count_cap};
 ghost use Rattle.otap_cells.specs.Payload.{main_of};
 ghost use Rattle.otap_cells.specs.Sets.{rows_named};
 ghost use Rattle.otap_cells.specs.Tables.{IsTable};
+ghost use Rattle.otap_cells.specs.Weights.{weight_of_tables};
 ghost use Rattle.otap_consume.specs.Limits.{held_limit};
 ghost use Rattle.otap_consume.specs.Sizes.{WithinLimits, PastLimit, count_of_rows};
 ghost use Rattle.otap_consume.specs.StreamSteps.{held_of};
 
 use crate::refusal::{Cause, MAX_HELD};
 use crate::stream::Stream;
-use otap_cells::{MAX_ROW_WEIGHT, ROW_UNIT, Rows, TableSet, main_of, row_weight};
+use otap_cells::{MAX_ROW_WEIGHT, ROW_UNIT, Rows, TableSet, is_light, main_of, row_weight};
 use otlp_model::{MAX_ITEMS, Signal, add_capped};
 
-/// The row weight of a set of tables, where it and the number of main rows are within their limits. No cell is visited
-/// where the number of rows alone is too heavy.
-pub(crate) fn weigh<R: Rows>(signal: Signal, set: &TableSet<R>) -> Result<u64, Cause>
-    ensures { MatchResult result (WithinLimits signal set.now) (PastLimit signal set.now) }
+/// Refuses a set of tables whose main rows are too many, or whose row weight is too great. No cell is visited where the number
+/// of rows alone is too heavy, and in most sets none of a column with a dictionary, whose longest value bounds its cells.
+pub(crate) fn check_sizes<R: Rows>(signal: Signal, set: &TableSet<R>) -> Result<(), Cause>
+    ensures within { OnOk result (WithinLimits signal set.now (weight_of_tables set.now)) }
+    ensures past { IfErr result (PastLimit signal set.now) }
 {
     if main_rows(signal, set) > MAX_ITEMS {
         return Err(Cause::TooManyItems);
@@ -24,11 +26,10 @@ pub(crate) fn weigh<R: Rows>(signal: Signal, set: &TableSet<R>) -> Result<u64, C
     if count_rows(set) > MAX_ROW_WEIGHT / ROW_UNIT {
         return Err(Cause::RowsTooHeavy);
     }
-    let weight = row_weight(set);
-    if weight > MAX_ROW_WEIGHT {
-        return Err(Cause::RowsTooHeavy);
+    if is_light(set, MAX_ROW_WEIGHT) || row_weight(set) <= MAX_ROW_WEIGHT {
+        return Ok(());
     }
-    Ok(weight)
+    Err(Cause::RowsTooHeavy)
 }
 
 fn main_rows<R: Rows>(signal: Signal, set: &TableSet<R>) -> u64

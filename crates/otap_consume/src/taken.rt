@@ -18,3 +18,14 @@ pub enum Taken {
     /// A reset.
     Reset,
 }
+
+/// What a frame gives where nobody asks for the weights of a batch.
+#[derive(Debug, Drop)]
+pub enum Given {
+    /// A batch in which nothing is wrong: its id and its request.
+    Accepted { id: i64, request: Request },
+    /// A frame that is refused.
+    Refused(Refusal),
+    /// A reset.
+    Reset,
+}

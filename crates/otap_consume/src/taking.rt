@@ -2,6 +2,7 @@
 ghost use Rattle.std.specs.Prelude.{◌≡◌, None, List, IfErr, IfOk, OnOk};
 ghost use Rattle.lists.specs.Payloads.{PayloadIn};
 ghost use Rattle.otap_cells.specs.Payload.{kinds_of};
+ghost use Rattle.otap_cells.specs.Weights.{weight_of_tables};
 ghost use Rattle.otap_consume.specs.declared.not_taken.NotTaken.TheVariants.{Defect};
 ghost use Rattle.otap_consume.specs.Defects.{Refuses};
 ghost use Rattle.otap_consume.specs.Opening.{IsOverLimit, IsWeighed, OpensAfter};
@@ -11,14 +12,15 @@ ghost use Rattle.otap_consume.specs.Streams.{AreAfter, kinds_in};
 
 use crate::ids::check_ids;
 use crate::not_taken::NotTaken;
-use crate::opened::Weighed;
 use crate::payload_types::check_types;
 use crate::records::take_records;
 use crate::refusal::Cause;
-use crate::sizes::{hold_too_much, weigh};
+use crate::sizes::{check_sizes, hold_too_much};
 use crate::stream::Stream;
 use crate::views::views;
 use otap_capture::Batch;
+use otap_cells::TableSet;
+use otap_columns::RowsView;
 use otlp_model::Signal;
 use std::alloc::Global;
 
@@ -43,22 +45,22 @@ pub(crate) fn open_payloads(
     take_records(alloc, streams, batch)
 }
 
-/// The tables of a batch whose records were taken last, and their row weight, where they are within the limits.
-pub(crate) fn weighed<'v>(
+/// The tables of a batch whose records were taken last, where they are within the limits.
+pub(crate) fn within<'v>(
     alloc: Global,
     signal: Signal,
     streams: &'v [Stream],
     batch: &Batch<'v>,
-) -> Result<Weighed<'v>, NotTaken>
+) -> Result<TableSet<RowsView<'v>>, NotTaken>
     requires shows { CanShow streams.now batch.now.payloads }
     requires kinds { kinds_in streams.now ≡ kinds_of signal }
-    ensures weighs { IfOk result (IsWeighed signal streams.now batch.now.payloads) }
+    ensures within { IfOk result (λ set. IsWeighed signal streams.now batch.now.payloads (record { tables = set; rows = weight_of_tables set })) }
     ensures stops { IfErr result (IsOverLimit signal streams.now batch.now.payloads) }
 {
     let tables = views(alloc, streams, batch)?;
-    match weigh(signal, &tables) {
-        Ok(_) if hold_too_much(streams) => Err(of_size(Cause::HeldTooMuch)),
-        Ok(rows) => Ok(Weighed { tables, rows }),
+    match check_sizes(signal, &tables) {
+        Ok(()) if hold_too_much(streams) => Err(of_size(Cause::HeldTooMuch)),
+        Ok(()) => Ok(tables),
         Err(cause) => Err(of_size(cause)),
     }
 }

@@ -1,6 +1,7 @@
-ghost use Rattle.std.specs.Prelude.{◌≡◌, ◌+◌, ◌<◌, ◌≤◌, ◌^◌, ◌++◌, ◌∷◌, [], length, IsOk, IsTrue, OnOk, OnErr, IfErr};
+ghost use Rattle.std.specs.Prelude.{◌≡◌, ℕ, ◌+◌, ◌<◌, ◌≤◌, ◌^◌, ◌++◌, ◌∷◌, [], None, length, IsOk, IsTrue, OnOk, OnErr, IfErr};
 ghost use Rattle.std.specs.List.{slice_index_or};
 ghost use Rattle.std.specs.Option.{option_copied};
+ghost use Rattle.arrow_buffers.specs.Columns.{cell_len};
 ghost use Rattle.arrow_arrays.specs.Cells.{array_check, place_of_values};
 
 use crate::reader::ends::{End, keep, value_in};
@@ -25,6 +26,8 @@ pub(crate) struct Dictionary {
     ends: Vec<End>,
     /// The bytes of all values, one after the other.
     bytes: Vec<u8>,
+    /// No value has more bytes.
+    longest: usize,
 }
 
 impl Model for Dictionary {
@@ -54,6 +57,7 @@ impl Dictionary {
             kind,
             ends: Vec::new(alloc),
             bytes: Vec::new(alloc),
+            longest: 0,
         }
     }
 
@@ -89,6 +93,13 @@ impl Dictionary {
         ensures few { result < 2 ^ 50 }
     {
         self.bytes.len() as u64 + HELD_UNIT * self.ends.len() as u64
+    }
+
+    /// A number of bytes that no value exceeds.
+    pub(crate) fn longest(&self) -> u64
+        ensures { (place : ℕ) → cell_len (slice_index_or self.now.values place None) ≤ result }
+    {
+        self.longest as u64
     }
 
     /// Takes the values of a batch, if it has this dictionary's id.
@@ -136,6 +147,7 @@ impl Dictionary {
         if !delta {
             self.ends.clear();
             self.bytes.clear();
+            self.longest = 0;
         }
     }
 
@@ -165,6 +177,7 @@ impl Dictionary {
         let there = keep(&mut self.bytes, value)?;
         let place = self.bytes.len();
         self.ends.push(End { from, place, there })?;
+        self.longest = self.longest.max(place - from);
         Ok(())
     }
 }

@@ -1,9 +1,9 @@
-ghost use Rattle.std.specs.Prelude.{◌≡◌, ℕ, true, None};
+ghost use Rattle.std.specs.Prelude.{◌≡◌, ℕ, true, None, IfSome};
 ghost use Rattle.std.specs.Option.{ForSome, option_copied};
 ghost use Rattle.arrow_arrays.specs.Views.{cell_seen};
 ghost use Rattle.otap_cells.specs.Cells.{seen};
 ghost use Rattle.otap_columns.specs.Known.{stored_cell};
-ghost use Rattle.otap_columns.specs.Resolved.{FitsBase, resolved_value, HasIndexSizes, IsResolved};
+ghost use Rattle.otap_columns.specs.Resolved.{FitsBase, resolved_value, HasIndexSizes, IsResolved, AtMost};
 ghost use Rattle.otap_columns.specs.Parts.{bytes_of_cell};
 ghost use Rattle.otap_columns.specs.Substreams.{value_by_index};
 
@@ -80,6 +80,18 @@ impl<'v> ResolvedColumn<'v> {
             None => self.stored.has_no_rows(),
             Some(_) => false,
         }
+    }
+
+    /// A number of bytes that so many rows don't exceed together, where one is known: no cell has more than the longest value of
+    /// its dictionary, and a column that is missing has none.
+    pub(crate) fn most_bytes(&self, rows: u64) -> Option<u64>
+        ensures { IfSome result (AtMost self.now rows) }
+    {
+        if self.is_missing() {
+            return Some(0);
+        }
+        let longest = self.dictionary?.longest();
+        rows.checked_mul(longest)
     }
 
     /// The value in a row; `None` where it is null, or there is no such row.

@@ -96,6 +96,10 @@ impl<'v> Rows for RowsView<'v> {
         self.column(column).is_missing()
     }
 
+    fn most_bytes(&self, column: u32) -> Option<u64> {
+        self.column(column).most_bytes(self.batch.rows())
+    }
+
     fn coding(&self, column: u32) -> Coding {
         self.reader.coding(column)
     }

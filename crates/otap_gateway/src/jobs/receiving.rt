@@ -1,7 +1,6 @@
 //! The jobs of a receiver: each is the text of what the frames give.
 ghost use Rattle.std.specs.Prelude.{◌≡◌, IfOk};
 ghost use Rattle.otap_signals.specs.BySignal.{meaning_by};
-ghost use Rattle.otap_consume.specs.Receivers.{HasLightRequest};
 ghost use Rattle.otap_consume.specs.Segments.{IsNew};
 ghost use Rattle.otap_gateway.specs.declared.jobs.command.Command.TheVariants as command;
 ghost use Rattle.otap_gateway.specs.JobStates.{HasReplied};
@@ -18,7 +17,7 @@ use crate::jobs::status::status_of;
 use crate::texts::causes::cause_name;
 use crate::texts::lines::refused_line;
 use otap_capture::Frame;
-use otap_consume::{Receiver, Refusal, Taken};
+use otap_consume::{Receiver, Refusal};
 use otlp_model::Signal;
 use std::alloc::{AllocError, Global};
 
@@ -54,32 +53,26 @@ impl Job for ReceiverJob {
     ghost stands = { λ s. HasReplied (meaning_by s.receiver.signal) (text_of s.text) s.receiver };
 
     fn step(&mut self, alloc: Global, number: u64, frame: &Frame<'_>) -> Result<Reply, AllocError> {
-        let taken = self.receiver.take(frame)?;
-        reply_of(self.text, alloc, number, taken, &mut self.spare)
+        match self.text {
+            ReceiverText::Decode => {
+                let given = self.receiver.request(frame)?;
+                decode(alloc, number, given, &mut self.spare)
+            }
+            ReceiverText::Status => {
+                let given = self.receiver.request(frame)?;
+                status_of(alloc, number, given)
+            }
+            ReceiverText::Replay => {
+                let taken = self.receiver.take(frame)?;
+                replay(alloc, number, taken)
+            }
+        }
     }
 
     fn take_back(&mut self, reply: Reply) {
         if matches!(self.text, ReceiverText::Decode) {
             self.spare.keep(reply);
         }
-    }
-}
-
-/// The reply to what a frame gave.
-fn reply_of(
-    text: ReceiverText,
-    alloc: Global,
-    number: u64,
-    taken: Taken,
-    spare: &mut Spare,
-) -> Result<Reply, AllocError>
-    requires { HasLightRequest taken }
-    ensures { IfOk result (λ reply. reply ≡ text_of text number taken) }
-{
-    match text {
-        ReceiverText::Decode => decode(alloc, number, taken, spare),
-        ReceiverText::Status => status_of(alloc, number, taken),
-        ReceiverText::Replay => replay(alloc, number, taken),
     }
 }
 

@@ -1,21 +1,22 @@
 //! `status`: what a Collector replies to each batch.
-ghost use Rattle.std.specs.Prelude.{◌≡◌, IfOk};
+ghost use Rattle.std.specs.Prelude.{◌≡◌, ℕ, IfOk};
 ghost use Rattle.otap_consume.specs.declared.taken.Taken.TheVariants as taken;
+ghost use Rattle.otap_consume.specs.Receivers.{weighed_as};
 ghost use Rattle.otap_gateway.specs.Receptions.{code_of, id_or_less, statused};
 
 use crate::jobs::reply::Reply;
 use crate::texts::causes::cause_name;
 use crate::texts::lines::{refusal_text, refused_line};
 use otap_capture::Status;
-use otap_consume::{Refusal, Taken};
+use otap_consume::{Given, Refusal};
 use std::alloc::{AllocError, Global};
 
 /// The reply to what a frame gave.
-pub(crate) fn status_of(alloc: Global, number: u64, taken: Taken) -> Result<Reply, AllocError>
-    ensures { IfOk result (λ reply. reply ≡ statused number taken) }
+pub(crate) fn status_of(alloc: Global, number: u64, given: Given) -> Result<Reply, AllocError>
+    ensures { IfOk result (λ reply. (rows tree : ℕ) → reply ≡ statused number (weighed_as given rows tree)) }
 {
-    match taken {
-        Taken::Accepted { id, .. } => {
+    match given {
+        Given::Accepted { id, request: _ } => {
             let status = Status {
                 id,
                 code: 0,
@@ -23,8 +24,8 @@ pub(crate) fn status_of(alloc: Global, number: u64, taken: Taken) -> Result<Repl
             };
             Reply::status(alloc, &status)
         }
-        Taken::Refused(refusal) => refuse(alloc, number, refusal),
-        Taken::Reset => Reply::reset(alloc),
+        Given::Refused(refusal) => refuse(alloc, number, refusal),
+        Given::Reset => Reply::reset(alloc),
     }
 }
 

@@ -1,6 +1,7 @@
 use Rattle.std.proofs.Common.{◌<◌, ◌∙◌, ◌++◌, ℕ, sym, subst, refl}
 use Rattle.std.specs.Prelude.{sum_by}
 use Rattle.std.proofs.lemmas.Bool.{ltb-true}
+use Rattle.otap_cells.specs.Weights.{weight_of_tables}
 use Rattle.otap_consume.specs.Limits.{held_limit}
 use Rattle.otap_consume.specs.declared.not_taken.NotTaken.{NotTaken}
 use Rattle.otap_consume.specs.Defects.{tables_of, held_after}
@@ -8,7 +9,7 @@ use Rattle.otap_consume.specs.StreamSteps.{held_of}
 use Rattle.otap_consume.specs.Opening.{StopsBySize}
 use Rattle.otap_consume.proofs.SizeSteps.{held_are}
 use Rattle.otap_consume.proofs.ViewSteps.{too_large, views_tables, weighs}
-use Rattle.otap_consume.proofs.taking.weighed.Goals as goal
+use Rattle.otap_consume.proofs.taking.within.Goals as goal
 
 pub returns-in-Ok-clause-stops : goal.returns-in-Ok-clause-stops
 returns-in-Ok-clause-stops c = λ past are.
@@ -20,8 +21,8 @@ returns-in-Ok-clause-stops c = λ past are.
           (ltb-true held_limit (sum_by held_of c.args.streams.now) (sym c.hold_too_much.ensures ∙ c.if-hold_too_much.true)),
     )
 
-pub returns-in-Ok-2-clause-weighs : goal.returns-in-Ok-2-clause-weighs
-returns-in-Ok-2-clause-weighs c =
+pub returns-in-Ok-2-clause-within : goal.returns-in-Ok-2-clause-within
+returns-in-Ok-2-clause-within c =
     let signal = c.args.signal in
     let payloads = c.args.batch.now.payloads in
     let streams = c.args.streams.now in
@@ -29,9 +30,9 @@ returns-in-Ok-2-clause-weighs c =
     record {
       tables = λ past are. views_tables signal past payloads streams tables c.requires.kinds are c.requires.shows c.in_ok-tables.ensures;
       weighs = λ past are.
-          weighs signal past payloads streams tables c.in-Ok.field-0 c.requires.kinds are c.requires.shows c.in_ok-tables.ensures
-          c.in-Ok.ensures (sym c.hold_too_much.ensures ∙ c.if-hold_too_much.false);
-      limits = c.in-Ok.ensures;
+          weighs signal past payloads streams tables (weight_of_tables tables) c.requires.kinds are c.requires.shows c.in_ok-tables.ensures
+          c.in-Ok.ensures.within (sym c.hold_too_much.ensures ∙ c.if-hold_too_much.false);
+      limits = c.in-Ok.ensures.within;
     }
 
 pub returns-clause-stops : goal.returns-clause-stops
@@ -42,5 +43,5 @@ returns-clause-stops c = λ past are.
     subst P (sym c.of_size-in-Err.ensures) (
       refl,
       too_large c.args.signal views (tables_of c.args.signal past payloads) (held_after c.args.signal (past ++ payloads)) c.in-Err.cause
-          (views_tables c.args.signal past payloads c.args.streams.now views c.requires.kinds are c.requires.shows c.in_ok-tables.ensures) c.in-Err.ensures,
+          (views_tables c.args.signal past payloads c.args.streams.now views c.requires.kinds are c.requires.shows c.in_ok-tables.ensures) c.in-Err.ensures.past,
     )

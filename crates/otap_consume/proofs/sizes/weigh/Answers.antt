@@ -1,6 +1,0 @@
-use Rattle.std.proofs.Common.{arith}
-use Rattle.otap_consume.proofs.SizeSteps.{too_many_rows}
-use Rattle.otap_consume.proofs.sizes.weigh.Goals as goal
-
-pub returns-then-count_rows : goal.returns-then-count_rows
-returns-then-count_rows g c = too_many_rows c.args.set.now c.count_rows.result c.count_rows.ensures.count (omega (arith, c.if-count_rows.true))
