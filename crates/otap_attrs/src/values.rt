@@ -22,7 +22,6 @@ use otlp_model::{Value, capped_len};
 use std::alloc::{AllocError, Global};
 
 /// The value of a row, whose columns begin at this one. Cells of other types than the value's are passed over.
-#[tactic(auto, using(crate::proofs::ValueColumns::value_text, crate::proofs::ValueColumns::value_type, crate::proofs::ValueColumns::value_width, crate::proofs::ValueColumns::small_width, crate::proofs::ValueColumns::value_cell), unfolding(crate::specs::Values::value_in))]
 pub fn value_at<R: Rows>(
     alloc: Global,
     rows: &R,
@@ -33,15 +32,36 @@ pub fn value_at<R: Rows>(
     requires row { row < length (R.table rows.now).rows }
     ensures { IfOk result (λ value. value ≡ value_in (drop column (slice_index_or (R.table rows.now).rows row []))) }
 {
+    let mut value = Value::Empty;
+    set_value(alloc, rows, column, row, &mut value)?;
+    Ok(value)
+}
+
+/// Makes an empty value that of a row, whose columns begin at this one. Cells of other types than the value's are passed over.
+#[inline(always)]
+#[tactic(auto, using(crate::proofs::ValueColumns::value_text, crate::proofs::ValueColumns::value_type, crate::proofs::ValueColumns::value_width, crate::proofs::ValueColumns::small_width, crate::proofs::ValueColumns::value_cell), unfolding(crate::specs::Values::value_in))]
+pub fn set_value<R: Rows>(
+    alloc: Global,
+    rows: &R,
+    column: u32,
+    row: u64,
+    value: &mut Value,
+) -> Result<(), AllocError>
+    requires columns { HasValueAt (R.table rows.now).kind column }
+    requires row { row < length (R.table rows.now).rows }
+    requires empty { value.old ≡ values.Empty }
+    ensures { OnOk result (value.new ≡ value_in (drop column (slice_index_or (R.table rows.now).rows row []))) }
+{
     match number_in(rows, column, row) {
-        1 => Ok(Value::Str(text_in(alloc, rows, column + 1, row)?)),
-        2 => Ok(Value::Int(int_in(rows, column + 2, row))),
-        3 => Ok(Value::Double(bits_in(rows, column + 3, row))),
-        4 => Ok(Value::Bool(flag_in(rows, column + 4, row))),
-        7 => Ok(Value::Bytes(octets_in(alloc, rows, column + 5, row)?)),
-        5 | 6 => Ok(nested_value(alloc, bytes_in(rows, column + 6, row))?),
-        _ => Ok(Value::Empty),
+        1 => *value = Value::Str(text_in(alloc, rows, column + 1, row)?),
+        2 => *value = Value::Int(int_in(rows, column + 2, row)),
+        3 => *value = Value::Double(bits_in(rows, column + 3, row)),
+        4 => *value = Value::Bool(flag_in(rows, column + 4, row)),
+        7 => *value = Value::Bytes(octets_in(alloc, rows, column + 5, row)?),
+        5 | 6 => *value = nested_value(alloc, bytes_in(rows, column + 6, row))?,
+        _ => {}
     }
+    Ok(())
 }
 
 /// The value of the bytes, or the empty one where they have none.

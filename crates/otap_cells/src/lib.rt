@@ -33,7 +33,9 @@ pub use logical::LogicalTable;
 pub use paths::column_of;
 pub use payload::{Kind, has_attributes, is_main, kinds, main_of, table_of};
 pub use profile::{Base, Coding, Column, base_of, coding_of, column_groups, columns};
-pub use reads::{bits_in, bytes_in, flag_in, int_in, number_in, octets_in, small_int_in, text_in};
+pub use reads::{
+    bits_in, bytes_in, flag_in, int_in, number_in, octets_in, set_text, small_int_in, text_in,
+};
 pub use rows::Rows;
 pub use scalars::{bits_cell, flag_cell, int_cell, number_cell, octets_cell, text_cell};
 pub use sets::TableSet;

@@ -1,5 +1,5 @@
 //! Single values, read from the cells of a table. Null reads as the default.
-ghost use Rattle.std.specs.Prelude.{◌≡◌, ◌<◌, true, length, IfOk};
+ghost use Rattle.std.specs.Prelude.{◌≡◌, ◌<◌, [], true, length, IfOk, OnErr, OnOk};
 ghost use Rattle.otap_cells.specs.declared.profile.Base.TheVariants as base;
 ghost use Rattle.otap_cells.specs.Cells.{bytes_in, nat_in};
 ghost use Rattle.otap_cells.specs.Scalars.{int_in, bits_in, flag_in, is_unsigned};
@@ -24,17 +24,37 @@ pub fn bytes_in<R: Rows>(rows: &R, column: u32, row: u64) -> &[u8]
 }
 
 /// A copy of the text of a cell.
+#[inline(always)]
 pub fn text_in<R: Rows>(alloc: Global, rows: &R, column: u32, row: u64) -> Result<Text, AllocError>
     requires base { base_at (R.table rows.now).kind column ≡ base.Utf8 }
     requires row { row < length (R.table rows.now).rows }
     ensures { IfOk result (λ text. text ≡ bytes_in (cell_in (R.table rows.now).rows column row)) }
 {
-    match rows.cell(column, row) {
-        CellView::Bytes(part) => Text::from_slice(alloc, part),
-        CellView::Null | CellView::Num(_) | CellView::Bits(_) | CellView::Flag(_) => {
-            Ok(Text::new(alloc))
-        }
+    let mut text = Text::new(alloc);
+    set_text(alloc, rows, column, row, &mut text)?;
+    Ok(text)
+}
+
+/// Makes an empty text a copy of that of a cell. Out of memory, it is empty still.
+#[inline(always)]
+pub fn set_text<R: Rows>(
+    alloc: Global,
+    rows: &R,
+    column: u32,
+    row: u64,
+    text: &mut Text,
+) -> Result<(), AllocError>
+    requires base { base_at (R.table rows.now).kind column ≡ base.Utf8 }
+    requires row { row < length (R.table rows.now).rows }
+    requires empty { text.old ≡ [] }
+    ensures ok { OnOk result (text.new ≡ bytes_in (cell_in (R.table rows.now).rows column row)) }
+    ensures err { OnErr result (text.new ≡ []) }
+{
+    if let CellView::Bytes(part) = rows.cell(column, row) {
+        // SAFETY: the bytes of a text column are UTF-8.
+        text.set(alloc, unsafe { str::from_utf8_unchecked(part) })?;
     }
+    Ok(())
 }
 
 /// A copy of the bytes of a cell.
