@@ -1,4 +1,4 @@
-ghost use Rattle.std.specs.Prelude.{◌≡◌, [], ◌∷◌, ◌++◌, ◌+◌, ◌-◌, ◌<◌, ◌≤◌, ◌^◌, drop, length, take, replicate, slice_set, OnOk, OnErr, IfOk};
+ghost use Rattle.std.specs.Prelude.{◌≡◌, [], ◌∷◌, ◌++◌, ◌+◌, ◌-◌, ◌<◌, ◌≤◌, ◌^◌, drop, length, take, true, replicate, slice_set, OnOk, OnErr, IfOk};
 ghost use Rattle.std.specs.List.{slice_index_or};
 ghost use Rattle.otap_cells.specs.Cells.{seen, null, bytes_in};
 ghost use Rattle.otap_cells.specs.Inside.{cell_of_slot, reach};
@@ -74,6 +74,16 @@ impl Cells {
         }
     }
 
+    /// Whether the cell of a row is known to be that of the row before: both are the same part of the column's bytes. `false`
+    /// says nothing of the cells.
+    #[inline(always)]
+    pub fn is_again(&self, row: usize) -> bool
+        requires { 0 < row }
+        ensures { result ≡ true → slice_index_or self.now row null ≡ slice_index_or self.now (row - 1) null }
+    {
+        is_same_part(slot_at(&self.slots, row), slot_at(&self.slots, row - 1))
+    }
+
     /// Writes the cell of a row after which no row has a cell. The bytes of a cell that was there before keep their room. The
     /// first cell reserves room for `room` cells.
     #[inline(always)]
@@ -122,6 +132,23 @@ fn slot_at(slots: &[KeptCell], row: usize) -> KeptCell
         slots[row]
     } else {
         KeptCell::Null
+    }
+}
+
+/// Whether two slots name the same part of a column's bytes.
+#[inline(always)]
+fn is_same_part(one: KeptCell, other: KeptCell) -> bool
+    ensures { result ≡ true → one ≡ other }
+{
+    let KeptCell::Bytes { from, len } = one else {
+        return false;
+    };
+    match other {
+        KeptCell::Bytes {
+            from: start,
+            len: count,
+        } => from == start && len == count,
+        KeptCell::Null | KeptCell::Num(_) | KeptCell::Bits(_) | KeptCell::Flag(_) => false,
     }
 }
 

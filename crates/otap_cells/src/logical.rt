@@ -146,6 +146,18 @@ impl LogicalTable {
         }
         self.columns[column].reach()
     }
+
+    /// Whether the cell of a row in a column is known to be that of the row before, without a look at its bytes. `false` says
+    /// nothing of the cells. In constant time.
+    #[inline(always)]
+    pub fn is_again(&self, column: u32, row: u64) -> bool
+        requires column { column < width_of self.now.kind }
+        requires after { 0 < row }
+        requires row { row < length self.now.rows }
+        ensures { result ≡ true → cell_in self.now.rows column row ≡ cell_in self.now.rows column (row - 1) }
+    {
+        self.columns[column as usize].is_again(row as usize)
+    }
 }
 
 impl Rows for LogicalTable {

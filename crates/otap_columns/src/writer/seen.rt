@@ -198,6 +198,10 @@ fn observe_values(
     let first = unset_rows(table, column, count);
     places.resize(first as usize, None)?;
     'rows: for row in first..count {
+        if row > first && table.is_again(column, row) {
+            places.push(place)?;
+            continue;
+        }
         let cell = table.cell(column, row);
         place = observe_after(ladder, base, before, place, cell)?;
         if is_plain(ladder.form()) {
