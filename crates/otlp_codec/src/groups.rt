@@ -19,7 +19,7 @@ ghost use Rattle.otlp_codec.specs.Canonical.{resource_rows, scope_rows, canon_sc
 use crate::cells::{take_text, take_uint32};
 use crate::lengths::{len_bytes_row, len_more, len_one, len_pairs, len_varint_row};
 use crate::part::{ItemMessage, Submessage, read_part, take_items, take_more, take_pairs};
-use crate::pool::Pool;
+use crate::pool::{Pool, Repeated};
 use crate::refusal::ReadRefusal;
 use crate::writing::{Spelled, write_more, write_one, write_pairs, write_text};
 use otlp_messages::{Backward, Message};
@@ -97,7 +97,7 @@ impl Submessage for Scope {
     }
 }
 
-impl<I: ItemMessage + Drop> Submessage for ScopeGroup<I> {
+impl<I: ItemMessage + Repeated> Submessage for ScopeGroup<I> {
     ghost named = { messages.ScopeGroup I.of };
 
     ghost none = { no_scope_group };
@@ -130,7 +130,7 @@ impl<I: ItemMessage + Drop> Submessage for ScopeGroup<I> {
     }
 }
 
-impl<I: ItemMessage + Drop> Submessage for ResourceGroup<I> {
+impl<I: ItemMessage + Repeated> Submessage for ResourceGroup<I> {
     ghost named = { messages.ResourceGroup I.of };
 
     ghost none = { no_resource_group };
@@ -163,7 +163,7 @@ impl<I: ItemMessage + Drop> Submessage for ResourceGroup<I> {
     }
 }
 
-impl<I: ItemMessage + Drop> Submessage for Items<ResourceGroup<I>> {
+impl<I: ItemMessage + Repeated> Submessage for Items<ResourceGroup<I>> {
     ghost named = { messages.Request I.of };
 
     ghost none = { [] };

@@ -15,7 +15,7 @@ ghost use Rattle.otlp_codec.specs.Limits.{level_limit};
 ghost use Rattle.otlp_codec.specs.PartRefusals.{Refuses, RefusesValue};
 ghost use Rattle.otlp_codec.specs.Groups.{value_in, pair_in};
 
-use crate::pool::Pool;
+use crate::pool::{Pool, Repeated, spare_list};
 use crate::refusal::ReadRefusal;
 use crate::values::{empty_pair, fill_pair, fill_value};
 use otlp_messages::{ItemKind, MARKS, Message, row_of};
@@ -103,7 +103,7 @@ fn fill<P: Submessage>(pool: &mut Pool, part: &mut P, bytes: &[u8]) -> Result<()
 
 /// Reads one more message of those that may occur any number of times.
 #[inline]
-pub(crate) fn take_more<P: Submessage + Drop>(
+pub(crate) fn take_more<P: Submessage + Repeated>(
     pool: &mut Pool,
     to: &mut Items<P>,
     value: &Wire<'_>,
@@ -115,6 +115,9 @@ pub(crate) fn take_more<P: Submessage + Drop>(
     let Wire::Bytes(bytes) = value else {
         return Err(ReadRefusal::BadMessage);
     };
+    if to.is_empty() {
+        *to = spare_list(pool);
+    }
     let mut part = P::empty(pool.alloc());
     fill(pool, &mut part, bytes)?;
     to.push(part)?;
@@ -123,7 +126,7 @@ pub(crate) fn take_more<P: Submessage + Drop>(
 
 /// Reads one more main item.
 #[inline]
-pub(crate) fn take_items<I: ItemMessage + Drop>(
+pub(crate) fn take_items<I: ItemMessage + Repeated>(
     pool: &mut Pool,
     to: &mut Items<I>,
     value: &Wire<'_>,
@@ -150,7 +153,7 @@ pub(crate) fn take_pairs(
         return Err(ReadRefusal::BadMessage);
     };
     if to.is_empty() {
-        *to = pool.list()?;
+        *to = pool.pairs()?;
     }
     let alloc = pool.alloc();
     let mut pair = empty_pair(alloc);

@@ -12,7 +12,7 @@ ghost use Rattle.otlp_codec.specs.Requests.{Stands, Reads, canon_request};
 
 use crate::lengths::len_more;
 use crate::part::read_part;
-use crate::pool::{Pool, give_back_each};
+use crate::pool::{Pool, give_back_all};
 use crate::refusal::ReadRefusal;
 use crate::writing::write_more;
 use otlp_messages::Backward;
@@ -20,8 +20,8 @@ use otlp_model::{Request, Signal};
 use std::alloc::{AllocError, Global};
 use std::marker::Model;
 
-/// A reader of requests, one after the other. It reads into the lists of attributes of requests that it took back, of which it
-/// keeps some thousand short ones. A contract sees nothing of it: each request is read as if it were the first.
+/// A reader of requests, one after the other. It reads into the lists of requests that it took back, of which it keeps some
+/// thousand short ones. A contract sees nothing of it: each request is read as if it were the first.
 #[derive(Debug, Drop)]
 pub struct RequestReader {
     pool: Pool,
@@ -59,9 +59,9 @@ impl RequestReader {
     pub fn take_back(&mut self, mut request: Request) {
         let pool = &mut self.pool;
         match &mut request {
-            Request::Traces(groups) => give_back_each(groups, pool),
-            Request::Logs(groups) => give_back_each(groups, pool),
-            Request::Metrics(groups) => give_back_each(groups, pool),
+            Request::Traces(groups) => give_back_all(groups, pool),
+            Request::Logs(groups) => give_back_all(groups, pool),
+            Request::Metrics(groups) => give_back_all(groups, pool),
         }
     }
 }
