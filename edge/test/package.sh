@@ -21,7 +21,8 @@ failed=0
 wrong() { echo "wrong: $*"; failed=1; }
 
 # What this checkout has, committed or not, as one commit in two folders of different names.
-git ls-files -z --cached --others --exclude-standard | tar --null -T - -cf "$room/files.tar"
+git ls-files -z --cached --others --exclude-standard | tar --null -T - -cf "$room/files.tar" \
+    || { wrong "not all files of this checkout could be copied"; exit 1; }
 export GIT_AUTHOR_DATE='2026-01-02T03:04:05Z' GIT_COMMITTER_DATE='2026-01-02T03:04:05Z'
 make() {
     local folder=$room/$1
