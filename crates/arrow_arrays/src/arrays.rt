@@ -98,7 +98,7 @@ impl Arrays {
         ensures { OnOk result (self.new ≡ self.old ++ array_after self.old above (name_in field.now) (kind_in field.now) (dict_in field.now) (encoding_in field.now) ∷ []) }
     {
         let array = ArraySpec {
-            name: Name::from_slice(alloc, field.name.as_slice())?,
+            name: Name::from_str(alloc, field.name.as_str())?,
             kind: field.kind,
             dict: field.dict,
             encoding: field.encoding,

@@ -90,16 +90,6 @@ impl Text {
         }
     }
 
-    /// A copy of the part, which is UTF-8.
-    #[inline]
-    pub fn from_slice(alloc: Global, part: &[u8]) -> Result<Text, AllocError>
-        requires { IsUtf8 part.now }
-        ensures { IfOk result (λ text. text ≡ part.now) }
-    {
-        // SAFETY: the part is UTF-8, which the contract requires.
-        Text::from_str(alloc, unsafe { str::from_utf8_unchecked(part) })
-    }
-
     /// A copy of the part.
     #[inline]
     pub fn from_str(alloc: Global, part: &str) -> Result<Text, AllocError>
@@ -127,6 +117,17 @@ impl Text {
         }
         *self = Text::from_str(alloc, part)?;
         Ok(())
+    }
+
+    /// The same for a part that is known to be UTF-8.
+    #[inline(always)]
+    pub fn set_slice(&mut self, alloc: Global, part: &[u8]) -> Result<(), AllocError>
+        requires { IsUtf8 part.now }
+        ensures ok { OnOk result (self.new ≡ part.now) }
+        ensures err { OnErr result (self.new ≡ self.old) }
+    {
+        // SAFETY: the part is UTF-8, which the contract requires.
+        self.set(alloc, unsafe { str::from_utf8_unchecked(part) })
     }
 
     #[inline]

@@ -51,8 +51,7 @@ pub fn set_text<R: Rows>(
     ensures err { OnErr result (text.new ≡ []) }
 {
     if let CellView::Bytes(part) = rows.cell(column, row) {
-        // SAFETY: the bytes of a text column are UTF-8.
-        text.set(alloc, unsafe { str::from_utf8_unchecked(part) })?;
+        text.set_slice(alloc, part)?;
     }
     Ok(())
 }
