@@ -1,7 +1,7 @@
-ghost use Rattle.std.specs.Prelude.{◌≡◌, [], ◌∷◌, ◌++◌, ◌↔◌, length, slice_get, IsTrue, OnOk, OnErr};
+ghost use Rattle.std.specs.Prelude.{◌≡◌, [], ◌∷◌, ◌++◌, ◌↔◌, length, slice_get, IsTrue, IfOk, OnOk, OnErr};
 ghost use Rattle.std.specs.Option.{option_copied, option_copied_mut};
 ghost use Rattle.std.specs.Borrow.{sem};
-ghost use Rattle.lists.specs.Lends.{lends_item};
+ghost use Rattle.lists.specs.Lends.{lends_added, lends_item};
 
 use std::alloc::{AllocError, Global};
 use std::marker::Model;
@@ -84,6 +84,16 @@ impl<T: Drop> Items<T> {
     {
         self.items.push(item)?;
         Ok(())
+    }
+
+    /// Appends the item and lends it, so that it can be written where it stays. Out of memory, the item is dropped and the list is
+    /// as before.
+    #[inline]
+    pub fn push_mut(&mut self, item: T) -> Result<&mut T, AllocError>
+        ensures* writes_back { sem 𝓛 (lends_added T.row self.entry result) }
+        ensures value { IfOk result (λ lent. lent.now ≡ item) }
+    {
+        Ok(self.items.push_mut(item)?)
     }
 
     /// Drops all items. The room for them stays.

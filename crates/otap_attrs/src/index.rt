@@ -99,7 +99,7 @@ impl PairIndex {
         let mut pairs = Items::new(alloc);
         pairs.reserve(entries.len())?;
         'entries: for entry in entries {
-            pairs.push(reader.read(alloc, None, entry.place)?)?;
+            reader.add(alloc, None, entry.place, &mut pairs)?;
         }
         Ok(pairs)
     }

@@ -77,7 +77,7 @@ impl<C: RowReader> Lookup for ChildIndex<'_, C> {
         children.reserve(entries.len())?;
         'entries: for entry in entries {
             let id = id_at(self.ids, entry.place);
-            children.push(self.reader.read(alloc, id, entry.place)?)?;
+            self.reader.add(alloc, id, entry.place, &mut children)?;
         }
         Ok(children)
     }

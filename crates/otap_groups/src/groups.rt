@@ -104,7 +104,7 @@ impl<R: Rows, S: RowReader, P: Lookup<Child = Pair>> Main<'_, R, S, P> {
         items.reserve(to.saturating_sub(from))?;
         'items: for place in from..to {
             let id = self.front.id(place);
-            items.push(self.items.read(alloc, id, place)?)?;
+            self.items.add(alloc, id, place, &mut items)?;
         }
         Ok(items)
     }

@@ -1,5 +1,5 @@
 //! What a signal brings to read its rows.
-ghost use Rattle.std.specs.Prelude.{◌≡◌, ◌<◌, ℕ, List, [], Option, length, min, IfOk};
+ghost use Rattle.std.specs.Prelude.{◌≡◌, ◌<◌, ◌++◌, ◌∷◌, ℕ, List, [], Option, length, min, IfOk, OnOk};
 ghost use Rattle.std.specs.List.{slice_index_or};
 ghost use Rattle.otlp_model.specs.Limits.{count_cap, part_weight};
 ghost use Rattle.otlp_model.specs.Weight.{total};
@@ -25,6 +25,21 @@ pub trait RowReader: Drop {
     fn read(&self, alloc: Global, id: Option<u32>, row: usize) -> Result<Self::Item, AllocError>
         requires { row < length (cells self.now) }
         ensures { IfOk result (λ read. read ≡ item self.now id (slice_index_or (cells self.now) row [])) };
+
+    /// Appends the item of a row that has this id.
+    #[inline]
+    fn add(
+        &self,
+        alloc: Global,
+        id: Option<u32>,
+        row: usize,
+        to: &mut Items<Self::Item>,
+    ) -> Result<(), AllocError>
+        requires { row < length (cells self.now) }
+        ensures { OnOk result (to.new ≡ to.old ++ item self.now id (slice_index_or (cells self.now) row []) ∷ []) }
+    {
+        to.push(self.read(alloc, id, row)?)
+    }
 
     /// What the item of a row weighs, or `CAP` where it is more. It builds nothing.
     fn weight(&self, id: Option<u32>, row: usize) -> u64

@@ -136,6 +136,30 @@ fn weight_by_points<'a, R: Rows, N: Lookup<Child = Point>, Y: Lookup<Child = Exe
     ensures { IfOk result (λ weight. weight ≡ min (regrouped_weight set.now) count_cap) }
 {
     let hist_points = find_hist_points(alloc, set, known, of_hists)?;
+    let weight = weight_by_hist_points(alloc, set, rows, known, points, hist_points)?;
+    Ok(weight)
+}
+
+/// The same, where points of histograms are found in a given way too.
+fn weight_by_hist_points<'a, R: Rows, N: Lookup<Child = Point>, H: Lookup<Child = HistPoint>>(
+    alloc: Global,
+    set: &'a TableSet<R>,
+    rows: &'a R,
+    known: &'a KnownRows,
+    points: N,
+    hist_points: H,
+) -> Result<u64, AllocError>
+    requires clean { AreCleanMetrics set.now }
+    requires known { KnowsAll signal.Metrics set.now known.now.ids }
+    requires weights { All (IsWeighed set.now) known.now.weights.items }
+    requires table { table_named table.Metrics set.now ≡ R.table rows.now }
+    requires kind { (R.table rows.now).kind ≡ table.Metrics }
+    requires points { FindAlike (N.finds points) (points_in set.now) }
+    requires hist_points { FindAlike (H.finds hist_points) (hist_points_in set.now) }
+    requires points_weighed { (point : Point) → N.weigh point ≡ weight_of_point point }
+    requires hist_points_weighed { (point : HistPoint) → H.weigh point ≡ weight_of_hist_point point }
+    ensures { IfOk result (λ weight. weight ≡ min (regrouped_weight set.now) count_cap) }
+{
     let summary_points = find_summary_points(alloc, set, known)?;
     let weight = weight_with(alloc, set, rows, known, points, hist_points, summary_points)?;
     Ok(weight)
@@ -193,6 +217,33 @@ fn groups_by_points<'a, R: Rows, N: Lookup<Child = Point>, Y: Lookup<Child = Exe
     ensures refused { IfErr result (RefusesRegroup Nothing (regrouped_weight set.now)) }
 {
     let hist_points = find_hist_points(alloc, set, known, of_hists)?;
+    let made = groups_by_hist_points(alloc, set, rows, known, points, hist_points)?;
+    Ok(made)
+}
+
+/// The same, where points of histograms are found in a given way too.
+fn groups_by_hist_points<'a, R: Rows, N: Lookup<Child = Point>, H: Lookup<Child = HistPoint>>(
+    alloc: Global,
+    set: &'a TableSet<R>,
+    rows: &'a R,
+    known: &'a KnownRows,
+    points: N,
+    hist_points: H,
+) -> Result<Grouped<Metric>, RegroupRefusal>
+    requires clean { AreCleanMetrics set.now }
+    requires known { KnowsAll signal.Metrics set.now known.now.ids }
+    requires weights { All (IsWeighed set.now) known.now.weights.items }
+    requires table { table_named table.Metrics set.now ≡ R.table rows.now }
+    requires kind { (R.table rows.now).kind ≡ table.Metrics }
+    requires points { FindAlike (N.finds points) (points_in set.now) }
+    requires hist_points { FindAlike (H.finds hist_points) (hist_points_in set.now) }
+    requires points_weighed { (point : Point) → N.weigh point ≡ weight_of_point point }
+    requires hist_points_weighed { (point : HistPoint) → H.weigh point ≡ weight_of_hist_point point }
+    ensures groups { IfOk result (λ made. made.groups ≡ regrouped_metrics set.now) }
+    ensures tree { IfOk result (λ made. made.tree ≡ weight_of (Metrics made.groups)) }
+    ensures light { IfOk result (λ made. made.tree ≤ weight_limit) }
+    ensures refused { IfErr result (RefusesRegroup Nothing (regrouped_weight set.now)) }
+{
     let summary_points = find_summary_points(alloc, set, known)?;
     let made = groups_with(alloc, set, rows, known, points, hist_points, summary_points)?;
     Ok(made)

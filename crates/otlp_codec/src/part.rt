@@ -118,10 +118,8 @@ pub(crate) fn take_more<P: Submessage + Repeated>(
     if to.is_empty() {
         *to = spare_list(pool);
     }
-    let mut part = P::empty(pool.alloc());
-    fill(pool, &mut part, bytes)?;
-    to.push(part)?;
-    Ok(())
+    let part = to.push_mut(P::empty(pool.alloc()))?;
+    fill(pool, part, bytes)
 }
 
 /// Reads one more main item.
@@ -156,10 +154,8 @@ pub(crate) fn take_pairs(
         *to = pool.pairs()?;
     }
     let alloc = pool.alloc();
-    let mut pair = empty_pair(alloc);
-    fill_pair(alloc, LEVELS, &mut pair, bytes)?;
-    to.push(pair)?;
-    Ok(())
+    let pair = to.push_mut(empty_pair(alloc))?;
+    fill_pair(alloc, LEVELS, pair, bytes)
 }
 
 /// Reads a value that is in no array and no key-value list.

@@ -220,10 +220,8 @@ fn take_array(
     match (field.number, &field.value) {
         (1, Wire::Bytes(_)) if levels == 0 => Err(ReadRefusal::TooDeep),
         (1, Wire::Bytes(part)) => {
-            let mut value = Value::Empty;
-            fill_value(alloc, levels - 1, &mut value, part)?;
-            values.push(value)?;
-            Ok(())
+            let value = values.push_mut(Value::Empty)?;
+            fill_value(alloc, levels - 1, value, part)
         }
         (1, _) => Err(ReadRefusal::BadMessage),
         _ => Ok(()),
@@ -246,10 +244,8 @@ fn take_map(
     match (field.number, &field.value) {
         (1, Wire::Bytes(_)) if levels == 0 => Err(ReadRefusal::TooDeep),
         (1, Wire::Bytes(part)) => {
-            let mut pair = empty_pair(alloc);
-            fill_pair(alloc, levels - 1, &mut pair, part)?;
-            pairs.push(pair)?;
-            Ok(())
+            let pair = pairs.push_mut(empty_pair(alloc))?;
+            fill_pair(alloc, levels - 1, pair, part)
         }
         (1, _) => Err(ReadRefusal::BadMessage),
         _ => Ok(()),

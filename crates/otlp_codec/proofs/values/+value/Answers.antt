@@ -1,4 +1,4 @@
-use Rattle.std.proofs.Common.{◌≡◌, ◌<◌, ℕ, [], ◌∷◌, length, refl, sym, ap, ◌∙◌, subst, arith}
+use Rattle.std.proofs.Common.{◌≡◌, ◌-◌, ◌<◌, ℕ, [], ◌∷◌, length, refl, sym, ap, ◌∙◌, subst, arith}
 use Rattle.otlp_messages.specs.Rows.{bytes_in}
 use Rattle.otlp_model.specs.declared.value.Value.TheVariants as values
 use Rattle.std.proofs.lemmas.Result.{err_from_is_err_and, on_ok_weaker, MatchResult-weaker}
@@ -9,7 +9,10 @@ use Rattle.otlp_wire.proofs.Readings.{part_len}
 use Rattle.otlp_messages.specs.declared.messages.Row.{Row}
 use Rattle.otlp_messages.specs.declared.messages.Message.TheVariants as messages
 use Rattle.otlp_messages.specs.Table.{mark_of}
-use Rattle.otlp_messages.specs.Defects.{wire_error}
+use Rattle.otlp_messages.specs.Defects.{Stands, wire_error}
+use Rattle.otlp_messages.specs.Inside.{ValueStands}
+use Rattle.otlp_messages.specs.declared.messages.FieldKind.TheVariants as kinds
+use Rattle.otlp_wire.specs.Wire as wire
 use Rattle.otlp_messages.specs.Limits.{mark_limit}
 use Rattle.otlp_messages.proofs.Steps.{first_occurs, twice_stands, value_is_shorter, member_stands}
 use Rattle.otlp_codec.proofs.Passing.{names_map, passes_none, passes_more, passes_all, refused_value}
@@ -253,14 +256,16 @@ fill_pair_by_field-returns-clause-value t c =
     let all = passes_all _ _ _ _ _ _ _ _ c.fields.invariant (ends.0, ends.1) in
     (all.0, all.1 ∙ pair_is c.args.levels c.args.bytes.now)
 
-pub take_array-returns-in_err-fill_value-in-1-Bytes-2-clause-fault : goal.take_array-returns-in_err-fill_value-in-1-Bytes-2-clause-fault
-take_array-returns-in_err-fill_value-in-1-Bytes-2-clause-fault t c =
-    let p = err_from_is_err_and c.from_residual.result c.from_residual.ensures.1 in
-    rw (p.1, p.2, c.in-1-Bytes.is-0, c.in-1-Bytes-2.is-1)
-    (names_map _ _ _ (λ e h. member_stands _ _ _ e c.if-levels-eq0.false h) c.in_err-fill_value-in-1-Bytes-2.ensures.fault)
+pub take_array-returns-in_ok-value-in-1-Bytes-2-clause-fault : goal.take_array-returns-in_ok-value-in-1-Bytes-2-clause-fault
+take_array-returns-in_ok-value-in-1-Bytes-2-clause-fault t c =
+    rw (c.in-1-Bytes.is-0, c.in-1-Bytes-2.is-1)
+    (MatchResult-weaker c.fill_value.result c.fill_value.ensures.fault (λ u none. none)
+    (λ refusal. names_map refusal (Stands messages.AnyValue (c.args.levels - 1) c.in-1-Bytes-2.part.now) (ValueStands (kinds.Member messages.AnyValue) c.args.levels (wire.Bytes c.in-1-Bytes-2.part.now))
+    (λ e h. member_stands messages.AnyValue c.args.levels c.in-1-Bytes-2.part.now e c.if-levels-eq0.false h)))
 
-pub take_map-returns-in_err-fill_pair-in-1-Bytes-2-clause-fault : goal.take_map-returns-in_err-fill_pair-in-1-Bytes-2-clause-fault
-take_map-returns-in_err-fill_pair-in-1-Bytes-2-clause-fault t c =
-    let p = err_from_is_err_and c.from_residual.result c.from_residual.ensures.1 in
-    rw (p.1, p.2, c.in-1-Bytes.is-0, c.in-1-Bytes-2.is-1)
-    (names_map _ _ _ (λ e h. member_stands _ _ _ e c.if-levels-eq0.false h) c.in_err-fill_pair-in-1-Bytes-2.ensures.fault)
+pub take_map-returns-in_ok-pair-in-1-Bytes-2-clause-fault : goal.take_map-returns-in_ok-pair-in-1-Bytes-2-clause-fault
+take_map-returns-in_ok-pair-in-1-Bytes-2-clause-fault t c =
+    rw (c.in-1-Bytes.is-0, c.in-1-Bytes-2.is-1)
+    (MatchResult-weaker c.fill_pair.result c.fill_pair.ensures.fault (λ u none. none)
+    (λ refusal. names_map refusal (Stands messages.KeyValue (c.args.levels - 1) c.in-1-Bytes-2.part.now) (ValueStands (kinds.Member messages.KeyValue) c.args.levels (wire.Bytes c.in-1-Bytes-2.part.now))
+    (λ e h. member_stands messages.KeyValue c.args.levels c.in-1-Bytes-2.part.now e c.if-levels-eq0.false h)))

@@ -8,8 +8,8 @@ use Rattle.otap_attrs.specs.Index.{IsIndexOf}
 use Rattle.otap_attrs.proofs.IndexedPairs.{are_pairs, below_rows, pairs_done}
 use Rattle.otap_attrs.proofs.index.PairIndex.pairs_of.Goals as goal
 
-pub read-requires : goal.read-requires
-read-requires g c =
+pub add-requires : goal.add-requires
+add-requires g c =
     let t = g.R.Rows.table c.args.rows.now in
     let are = c.entries_of-entries.ensures ∙ ap (of_parent c.args.parent) c.deref.ensures.value in
     let is = subst (IsIndexOf t) (sym c.self.view_is) c.requires in
