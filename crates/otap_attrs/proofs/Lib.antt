@@ -13,6 +13,7 @@ pub mod PairRows
 pub mod PairsSaid
 pub mod Parentless
 pub mod RecodedRows
+pub mod RisingParents
 pub mod SortedBy
 pub mod SortedRows
 pub mod StableSort
