@@ -1,7 +1,8 @@
--- Numbers: whole eights, sums that are capped at 2^63, and signed ones of 32 and of 64 bits.
-use Rattle.std.proofs.Common.{◌≡◌, ℕ, ◌+◌, ◌*◌, ◌/◌, ◌%◌, ◌^◌, ◌<◌, min, sum, ℤ, pos, negsuc, [], ◌∷◌, arith}
+-- Numbers: whole eights, numbers in bytes, sums that are capped at 2^63, and signed ones of 32 and of 64 bits.
+use Rattle.std.proofs.Common.{◌≡◌, ℕ, ◌+◌, ◌*◌, ◌/◌, ◌%◌, ◌^◌, ◌<◌, min, sum, ℤ, pos, negsuc, List, [], ◌∷◌, length, drop, zero, suc, refl, ap, arith}
 use Rattle.std.specs.Prelude.{FitsSigned}
 use Rattle.std.specs.Int.{w32, w64, cast_unsigned}
+use Rattle.lists.specs.Numbers.{little_numbers}
 
 -- ---- whole eights
 
@@ -10,6 +11,12 @@ eights_divided n = omega arith
 
 pub eights_whole : (n : ℕ) → 8 * n % 8 ≡ 0
 eights_whole n = omega arith
+
+-- ---- numbers in bytes
+
+pub length-little_numbers : (count : ℕ) (bytes : List ℕ) → length (little_numbers count bytes) ≡ count
+length-little_numbers zero bytes = refl
+length-little_numbers (suc count) bytes = ap suc (length-little_numbers count (drop 8 bytes))
 
 -- ---- sums that are capped
 

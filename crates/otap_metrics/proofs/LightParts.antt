@@ -1,5 +1,5 @@
 -- What is below metrics weighs no more than they do; so there are few points and exemplars, and each can be written.
-use Rattle.std.proofs.Common.{◌≡◌, ℕ, ◌+◌, ◌*◌, ◌≤◌, List, [], ◌∷◌, ◌++◌, length, map, arith}
+use Rattle.std.proofs.Common.{ℕ, ◌*◌, ◌≤◌, List, [], ◌∷◌, length, map, arith}
 use Rattle.std.specs.Prelude.{All}
 use Rattle.std.specs.List.{flat_map}
 use Rattle.std.proofs.lemmas.List.Elements.{All-nil}
@@ -13,17 +13,13 @@ use Rattle.otlp_model.specs.declared.metrics.Metric.{Metric}
 use Rattle.otlp_model.specs.declared.metrics.Point.{Point}
 use Rattle.otlp_model.specs.declared.metrics.Shape.{Shape}
 use Rattle.otlp_model.specs.declared.metrics.Shape.TheVariants as shapes
-use Rattle.otlp_model.proofs.Totals.{few_parts, parts_can}
+use Rattle.otlp_model.proofs.Totals.{few_parts, parts_can, total_append}
 use Rattle.otap_groups.specs.Flat.{items_of}
 use Rattle.otap_metrics.specs.Metrics.{points_of}
 use Rattle.otap_metrics.specs.Tables.{all_exemplars, all_points}
 use Rattle.otap_points.specs.Writable.{CanWriteExemplar, CanWritePoint}
 
 -- ---- any parts
-
-pub total_append : {A : Type 0} (each : ℕ) (weigh : A → ℕ) (xs ys : List A) → total each weigh (xs ++ ys) ≡ total each weigh xs + total each weigh ys
-total_append each weigh [] ys = omega arith
-total_append each weigh (x ∷ xs) ys = let more = total_append each weigh xs ys in omega (arith, more)
 
 -- where the parts of each weigh no more than it
 pub parts_light : {A B : Type 0} (weigh : A → ℕ) (below : B → ℕ) (parts : A → List B) → ((a : A) → total 32 below (parts a) ≤ weigh a) → (xs : List A)

@@ -1,5 +1,5 @@
 -- Lists of numbers as bytes and back: how many bytes they take, that they come back, and what the loops that read them keep.
-use Rattle.std.proofs.Common.{◌≡◌, ℕ, zero, suc, ◌+◌, ◌*◌, ◌-◌, ◌/◌, ◌%◌, ◌^◌, ◌<◌, min, List, [], ◌∷◌, ◌++◌, length, drop, append_assoc, append-nil, inl, inr, refl, sym, ap, ◌∙◌, arith}
+use Rattle.std.proofs.Common.{◌≡◌, ℕ, suc, ◌+◌, ◌*◌, ◌-◌, ◌/◌, ◌%◌, ◌^◌, ◌<◌, min, List, [], ◌∷◌, ◌++◌, length, drop, append_assoc, append-nil, inl, inr, refl, sym, ap, ◌∙◌, arith}
 use Rattle.std.specs.Prelude.{All, nat_lt}
 use Rattle.std.proofs.lemmas.Bool.{cases_Bool, ltb-false, ltb-true}
 use Rattle.std.proofs.lemmas.List.{drop-drop, length-append}
@@ -34,10 +34,6 @@ pub list_back : (ns : List ℕ) → All (λ n. n < 2 ^ 64) ns → list_in (list_
 list_back ns small =
     ap (λ (part : List ℕ). little_numbers (length part / 8) part) (text_back (bytes_of ns))
     ∙ ap (λ count. little_numbers count (bytes_of ns)) (ap (λ size. size / 8) (length_bytes ns) ∙ eights_divided (length ns)) ∙ numbers_back ns small
-
-pub count_of : (count : ℕ) (bytes : List ℕ) → length (little_numbers count bytes) ≡ count
-count_of zero bytes = refl
-count_of (suc count) bytes = ap suc (count_of count (drop 8 bytes))
 
 -- ---- reading them one by one
 

@@ -18,7 +18,7 @@ use Rattle.otap_checks.specs.Measured.{element_count}
 use Rattle.otap_points.specs.Lists.{list_in}
 use Rattle.otap_points.specs.Numbers.{measured_in}
 use Rattle.otap_points.specs.Points.{exemplar_of, hist_point_of, optional_in, point_of, quantiles_of, sum_point_of}
-use Rattle.otap_points.proofs.ListBytes.{count_of}
+use Rattle.lists.proofs.Numbers.{length-little_numbers}
 use Rattle.otap_cells.proofs.OwnCells.{length_own, own_cell, own_cells}
 
 -- ---- reading
@@ -120,7 +120,7 @@ count_own : (rows : List (List Cell)) (row k : ℕ) (part : List ℕ) → row < 
     → length part / 8 ≡ length (list_in (cell_at (own_cells 2 rows row) k))
 count_own rows row k part within is =
     ap (λ (part : List ℕ). length part / 8) (is ∙ ap bytes_in (sym (own_cell 2 rows row k within)))
-    ∙ sym (count_of (element_count (cell_at (own_cells 2 rows row) k)) (bytes_in (cell_at (own_cells 2 rows row) k)))
+    ∙ sym (length-little_numbers (element_count (cell_at (own_cells 2 rows row) k)) (bytes_in (cell_at (own_cells 2 rows row) k)))
 
 hist_sum : (a b wa wb p e n x y : ℕ) → wa ≡ min (8 * a) (2 ^ 63) → wb ≡ min (8 * b) (2 ^ 63) → p ≡ min x (2 ^ 63) → e ≡ min y (2 ^ 63)
     → n ≡ min (sum (wa ∷ wb ∷ p ∷ e ∷ [])) (2 ^ 63) → n ≡ min (8 * a + 8 * b + x + y) (2 ^ 63)

@@ -28,3 +28,6 @@ pub mod MetricProfile
 pub mod RequestProfile
 pub mod MetricReal
 pub mod RequestReal
+pub mod LightFields
+pub mod LightLaw
+pub mod LightMetrics

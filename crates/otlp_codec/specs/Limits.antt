@@ -1,4 +1,4 @@
--- How deep the values of a request may be, and how long the written requests.
+-- How deep the values of a request may be, how long the written requests, and how heavy those that are read.
 use Rattle.std.specs.Prelude.{ℕ, ◌-◌, ◌*◌}
 use Rattle.otlp_model.specs.Limits.{depth_limit, weight_limit}
 
@@ -9,6 +9,10 @@ level_limit = depth_limit - 1
 -- the most bytes that a unit of weight is written in
 abbrev pub bytes_for_unit : ℕ
 bytes_for_unit = 8
+
+-- the most that a byte of what is read adds to its weight
+abbrev pub weight_for_byte : ℕ
+weight_for_byte = 16
 
 -- a request that weighs at most weight_limit is written in at most this number of bytes
 abbrev pub longest_request : ℕ

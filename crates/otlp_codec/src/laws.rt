@@ -11,12 +11,14 @@ ghost use Rattle.otlp_model.specs.Real.{IsReal};
 ghost use Rattle.otlp_model.specs.Profile.{IsProfile};
 ghost use Rattle.otlp_model.specs.Telemetry.{signal_of};
 ghost use Rattle.otlp_codec.specs.declared.part.TheConstants.{LEVELS};
-ghost use Rattle.otlp_codec.specs.Limits.{bytes_for_unit, level_limit};
+ghost use Rattle.otlp_codec.specs.declared.request.TheConstants.{WEIGHT_FOR_BYTE};
+ghost use Rattle.otlp_codec.specs.Limits.{bytes_for_unit, level_limit, weight_for_byte};
 ghost use Rattle.otlp_codec.specs.Requests.{Stands, Reads, canon_request};
 
-/// The limit of the code is the one that the definitions name.
+/// The limits of the code are the ones that the definitions name.
 pub fn limits()
-    ensures { LEVELS ≡ level_limit }
+    ensures levels { LEVELS ≡ level_limit }
+    ensures byte { WEIGHT_FOR_BYTE ≡ weight_for_byte }
 {}
 
 /// Bytes say one request at most.
@@ -33,6 +35,11 @@ pub fn some_reading()
 /// What is read of bytes is real, as it must be to be written: its texts are UTF-8, and its numbers fit their types.
 pub fn read_is_real()
     ensures { (signal : Signal) (bytes : List ℕ) (q : Request) → IsTrue (is_real_octets bytes) → Reads signal bytes q → IsReal q }
+{}
+
+/// What is read weighs at most `WEIGHT_FOR_BYTE` for each byte that it is read of.
+pub fn read_is_light()
+    ensures { (signal : Signal) (bytes : List ℕ) (q : Request) → Reads signal bytes q → weight_of q ≤ weight_for_byte * length bytes }
 {}
 
 /// What is written is read: of a request that a program can hold, whose ids have their lengths and whose

@@ -21,8 +21,10 @@ mod values;
 mod writing;
 
 pub use laws::{
-    limits, one_reading, read_is_real, some_reading, spelling_is_short, tidy_is_stable,
-    written_is_read,
+    limits, one_reading, read_is_light, read_is_real, some_reading, spelling_is_short,
+    tidy_is_stable, written_is_read,
 };
 pub use refusal::ReadRefusal;
-pub use request::{RequestReader, len_request, put_request, read_request, write_request};
+pub use request::{
+    RequestReader, WEIGHT_FOR_BYTE, len_request, put_request, read_request, write_request,
+};

@@ -20,6 +20,9 @@ use otlp_model::{Request, Signal};
 use std::alloc::{AllocError, Global};
 use std::marker::Model;
 
+/// The most that a byte of a request that is read adds to its weight: a part weighs 32, and takes up two bytes at least.
+pub const WEIGHT_FOR_BYTE: u64 = 16;
+
 /// A reader of requests, one after the other. It reads into the lists of requests that it took back, of which it keeps some
 /// thousand short ones. A contract sees nothing of it: each request is read as if it were the first.
 #[derive(Debug, Drop)]

@@ -1,8 +1,12 @@
 -- What the parts of a list weigh in all.
-use Rattle.std.proofs.Common.{◌≡◌, ◌∙◌, ℕ, ◌*◌, ◌^◌, ◌≤◌, min, List, [], ◌∷◌, length, ap, arith}
+use Rattle.std.proofs.Common.{◌≡◌, ◌∙◌, ℕ, ◌+◌, ◌*◌, ◌^◌, ◌≤◌, min, List, [], ◌∷◌, ◌++◌, length, ap, arith}
 use Rattle.std.specs.Prelude.{All}
 use Rattle.std.proofs.lemmas.List.Elements.{All-nil, All-cons, All-head, All-tail}
 use Rattle.otlp_model.specs.Weight.{total}
+
+pub total_append : {A : Type 0} (each : ℕ) (weigh : A → ℕ) (xs ys : List A) → total each weigh (xs ++ ys) ≡ total each weigh xs + total each weigh ys
+total_append each weigh [] ys = omega arith
+total_append each weigh (x ∷ xs) ys = let more = total_append each weigh xs ys in omega (arith, more)
 
 -- how many there are, where each weighs at least 32
 pub few_parts : {A : Type 0} (weigh : A → ℕ) (parts : List A) → 32 * length parts ≤ total 32 weigh parts

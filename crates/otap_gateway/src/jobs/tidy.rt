@@ -1,6 +1,9 @@
 //! `tidy`: each request in canonical spelling.
-ghost use Rattle.std.specs.Prelude.{◌≡◌, IfOk};
+ghost use Rattle.std.specs.Prelude.{◌≡◌, ◌≤◌, ◌<◌, ◌*◌, ◌↔◌, IsTrue, IfOk};
 ghost use Rattle.otap_capture.specs.Capture.{frame_of};
+ghost use Rattle.otlp_codec.specs.Limits.{weight_for_byte};
+ghost use Rattle.otlp_model.specs.Limits.{weight_limit};
+ghost use Rattle.otlp_model.specs.Weight.{weight_of};
 ghost use Rattle.otap_gateway.specs.declared.jobs.command.Command.TheVariants as command;
 ghost use Rattle.otap_gateway.specs.Tidying.{TidiesFrame, TidiesMessage, tidied};
 
@@ -9,7 +12,7 @@ use crate::jobs::refused_requests::{refusal_name, refused};
 use crate::jobs::reply::Reply;
 use crate::jobs::spare::Spare;
 use otap_capture::{FRAME_HEAD, Frame};
-use otlp_codec::{RequestReader, put_request};
+use otlp_codec::{RequestReader, WEIGHT_FOR_BYTE, put_request, read_is_light};
 use otlp_model::{MAX_ITEMS, MAX_TREE_WEIGHT, Request, Signal, items, weight};
 use std::alloc::{AllocError, Global};
 
@@ -84,6 +87,7 @@ fn tidy_message(
 {
     match reader.read(signal, bytes) {
         Ok(request) => {
+            read_is_light();
             let reply = tidy_request(alloc, number, &request, bytes.len(), spare)?;
             reader.take_back(request);
             Ok(reply)
@@ -92,7 +96,7 @@ fn tidy_message(
     }
 }
 
-/// What is written is about as long as `len`, the length of what was read.
+/// What is written is about as long as `len`, the length of what the request was read of.
 fn tidy_request(
     alloc: Global,
     number: u64,
@@ -100,16 +104,25 @@ fn tidy_request(
     len: usize,
     spare: &mut Spare,
 ) -> Result<Reply, AllocError>
+    requires light { weight_of request.now ≤ weight_for_byte * len }
     ensures { IfOk result (λ reply. reply ≡ tidied number request.now) }
 {
     if items(request) > MAX_ITEMS {
         return refused(alloc, number, "TooManyItems");
     }
-    if weight(request) > MAX_TREE_WEIGHT {
+    if is_too_heavy(request, len) {
         return refused(alloc, number, "TooHeavy");
     }
     let mut spelling = spare.take(alloc);
     spelling.reserve(len.saturating_add(FRAME_HEAD))?;
     put_request(&mut spelling, request)?;
     Reply::message(alloc, spelling)
+}
+
+/// Whether a request that was read of `len` bytes weighs too much. Few bytes can't, so most requests aren't weighed.
+fn is_too_heavy(request: &Request, len: usize) -> bool
+    requires light { weight_of request.now ≤ weight_for_byte * len }
+    ensures { IsTrue result ↔ (weight_limit < weight_of request.now) }
+{
+    len as u64 > MAX_TREE_WEIGHT / WEIGHT_FOR_BYTE && weight(request) > MAX_TREE_WEIGHT
 }
