@@ -84,8 +84,8 @@ impl Segment {
 
     /// Opens the next frame: a batch after those before it, as far as its records, or a reset, which begins a segment. What it
     /// refuses, `take` refuses too. A refused frame breaks the segment, and so does running out of memory. The caller then
-    /// looks at its tables by [`Segment::check`], or by [`Segment::weigh`] and then at their rows; where the batch isn't taken,
-    /// [`Segment::refuse_batch`] breaks the segment.
+    /// looks at its tables by [`Segment::check`], or by [`Segment::within`] or [`Segment::weigh`] and then at their rows; where
+    /// the batch isn't taken, [`Segment::refuse_batch`] breaks the segment.
     pub fn open<'f>(&mut self, frame: &Frame<'f>) -> Result<Opened<'f>, AllocError>
         ensures opens { IfOk result (Opens self.old (frame_of frame.now) self.new) }
         ensures memory { OnErr result (self.new.broken ≡ true) }
