@@ -1,5 +1,5 @@
 -- Rows that take cells of the row before them again.
-use Rattle.std.proofs.Common.{◌≡◌, ℕ, suc, ◌-◌, ◌<◌, pos, true, false, ◌==◌, ◌&&◌, ◌||◌, List, [], ◌∷◌, ◌++◌, drop, get_or, set, length, replicate, Option, None, Some, refl, sym, ap, subst, ◌∙◌, arith, inl, inr}
+use Rattle.std.proofs.Common.{◌≡◌, ℕ, suc, ◌+◌, ◌*◌, ◌-◌, ◌<◌, pos, true, false, ◌==◌, ◌&&◌, ◌||◌, List, [], ◌∷◌, ◌++◌, drop, get_or, set, length, replicate, Option, None, Some, refl, sym, ap, subst, ◌∙◌, arith, inl, inr}
 use Rattle.std.specs.Prelude.{All, IfSome, not, if◌then◌else◌}
 use Rattle.std.specs.List.{slice_index_or}
 use Rattle.std.specs.Str.{bytes_eq}
@@ -23,7 +23,7 @@ use Rattle.otap_cells.proofs.AttributeColumns.{attribute_width}
 use Rattle.otap_cells.proofs.Rowwise.{with_cell-push}
 use Rattle.otap_attrs.specs.declared.sorting.Keyed.{Keyed}
 use Rattle.otap_attrs.specs.declared.sorting.Ranked.{Ranked}
-use Rattle.otap_attrs.specs.Fronts.{front_len, past_front}
+use Rattle.otap_attrs.specs.Fronts.{front_len, front_number, past_front, word}
 use Rattle.otap_attrs.specs.Names.{name_cmp}
 use Rattle.otap_attrs.specs.Sorting.{KeyIn}
 use Rattle.otap_attrs.specs.Inside.{ComesAfter, EndsNamed, EndsSame, HasKeyAndFront, IsRankedAs, attribute_cells, attribute_row, base_after, has_value_of, keyed_cells, keyed_row, left_bytes, name_in, ranked_keyed, said_cell, seen_key, value_place, with_some}
@@ -66,10 +66,10 @@ attribute_itself a b same =
     ((bytes_eq-Decides a.bytes b.bytes).1 (ap (λ (z : AttributeIn). z.bytes) same))
 
 -- what fronts of one length leave
-same_left : (m n : ℕ) (xs ys : List ℕ) → m ≡ n → (not (n == 9) || bytes_eq (past_front m xs) (past_front n ys)) ≡ true → past_front m xs ≡ past_front n ys
-same_left m n xs ys same told = elim (cases_Bool (n == 9)) [
-  | inl nine ↦ (bytes_eq-Decides (past_front m xs) (past_front n ys)).0 (sym (ap (λ t. not t || bytes_eq (past_front m xs) (past_front n ys)) nine) ∙ told)
-  | inr other ↦ ap (λ (k : ℕ). past_front k xs) same ∙ cond-false (n == 9) (drop 8 xs) [] other ∙ sym (cond-false (n == 9) (drop 8 ys) [] other)
+same_left : (m n : ℕ) (xs ys : List ℕ) → m ≡ n → (not (n == 17) || bytes_eq (past_front m xs) (past_front n ys)) ≡ true → past_front m xs ≡ past_front n ys
+same_left m n xs ys same told = elim (cases_Bool (n == 17)) [
+  | inl long ↦ (bytes_eq-Decides (past_front m xs) (past_front n ys)).0 (sym (ap (λ t. not t || bytes_eq (past_front m xs) (past_front n ys)) long) ∙ told)
+  | inr other ↦ ap (λ (k : ℕ). past_front k xs) same ∙ cond-false (n == 17) (drop 16 xs) [] other ∙ sym (cond-false (n == 17) (drop 16 ys) [] other)
 ]
 
 -- ---- a row and the one before it
@@ -101,7 +101,7 @@ module _ (a b : Ranked) (of_a : HasKeyAndFront a) (of_b : HasKeyAndFront b) (ran
       let tie : name_cmp (name_in earlier) (name_in later) ≡ Equal = subst (λ (z : AttributeIn). name_cmp (name_in earlier) (name_in z) ≡ Equal) same (tied_name earlier) in
       differs (tied_numbers a.rank b.rank (ranks ∙ tie))
 
-  fronts : earlier.kind ≡ later.kind → ordering_then (nat_cmp a.front b.front) (by_lens (front_len earlier) (front_len later) earlier.bytes later.bytes) ≡ value_cmp earlier later
+  fronts : earlier.kind ≡ later.kind → ordering_then (nat_cmp (front_number a.front) (front_number b.front)) (by_lens (front_len earlier) (front_len later) earlier.bytes later.bytes) ≡ value_cmp earlier later
   fronts kinds = front_value earlier later a.front b.front of_a.front of_b.front (own_key a.keyed.now of_a.key) (own_key b.keyed.now of_b.key) kinds
 
   -- one front of one length, and the same bytes after it
@@ -113,14 +113,17 @@ module _ (a b : Ranked) (of_a : HasKeyAndFront a) (of_b : HasKeyAndFront b) (ran
 
   pub same_value : a.rank ≡ b.rank → has_value_of a b ≡ true → earlier ≡ later
   same_value one valued =
-      let p = and_parts (a.front == b.front && a.len == b.len) (not (b.len == 9) || bytes_eq (left_bytes a) (left_bytes b)) valued in
-      let q = and_parts (a.front == b.front) (a.len == b.len) p.0 in
-      let front : a.front ≡ b.front = (Decides-eqb a.front b.front).0 q.0 in
+      let p = and_parts (a.front.first == b.front.first && a.front.next == b.front.next && a.len == b.len) (not (b.len == 17) || bytes_eq (left_bytes a) (left_bytes b)) valued in
+      let q = and_parts (a.front.first == b.front.first && a.front.next == b.front.next) (a.len == b.len) p.0 in
+      let r = and_parts (a.front.first == b.front.first) (a.front.next == b.front.next) q.0 in
+      let first : a.front.first ≡ b.front.first = (Decides-eqb a.front.first b.front.first).0 r.0 in
+      let next : a.front.next ≡ b.front.next = (Decides-eqb a.front.next b.front.next).0 r.1 in
+      let front : front_number a.front ≡ front_number b.front = λ i. first i * word + next i in
       let len : a.len ≡ b.len = (Decides-eqb a.len b.len).0 q.1 in
       let left : left_bytes a ≡ left_bytes b = same_left a.len b.len earlier.bytes later.bytes len p.1 in
       let kinds : earlier.kind ≡ later.kind = same_kind one in
       let value : value_cmp earlier later ≡ Equal = sym (fronts kinds)
-      ∙ ap (λ o. ordering_then o (by_lens (front_len earlier) (front_len later) earlier.bytes later.bytes)) (sym (nat_cmp_is a.front b.front Equal front)) ∙ tied_lens len left in
+      ∙ ap (λ o. ordering_then o (by_lens (front_len earlier) (front_len later) earlier.bytes later.bytes)) (sym (nat_cmp_is (front_number a.front) (front_number b.front) Equal front)) ∙ tied_lens len left in
       let u = ties (int_cmp earlier.int later.int) (ordering_then (nat_cmp earlier.bits later.bits) (slice_cmp nat_cmp earlier.bytes later.bytes)) value in
       let v = ties (nat_cmp earlier.bits later.bits) (slice_cmp nat_cmp earlier.bytes later.bytes) u.1 in
       let int : earlier.int ≡ later.int = (Decides-int_eq earlier.int later.int).0 (ap is_eq u.0) in
@@ -134,15 +137,19 @@ module _ (a b : Ranked) (of_a : HasKeyAndFront a) (of_b : HasKeyAndFront b) (ran
   said_same same =
       let kinds : earlier.kind ≡ later.kind = ap (λ (z : AttributeIn). z.kind) same in
       let value : value_cmp earlier later ≡ Equal = subst (λ (z : AttributeIn). value_cmp earlier z ≡ Equal) same (tied_value earlier) in
-      let u = ties (nat_cmp a.front b.front) (by_lens (front_len earlier) (front_len later) earlier.bytes later.bytes) (fronts kinds ∙ value) in
+      let u = ties (nat_cmp (front_number a.front) (front_number b.front)) (by_lens (front_len earlier) (front_len later) earlier.bytes later.bytes) (fronts kinds ∙ value) in
       let v = ties (nat_cmp (front_len earlier) (front_len later)) (slice_cmp nat_cmp (past_front (front_len earlier) earlier.bytes) (past_front (front_len later) later.bytes)) u.1 in
-      let front : a.front ≡ b.front = tied_numbers a.front b.front u.0 in
+      let front : front_number a.front ≡ front_number b.front = tied_numbers (front_number a.front) (front_number b.front) u.0 in
+      let first : a.front.first ≡ b.front.first = omega (arith, front, of_a.front.small, of_b.front.small) in
+      let next : a.front.next ≡ b.front.next = omega (arith, front, of_a.front.small, of_b.front.small) in
       let len : a.len ≡ b.len = of_a.len ∙ tied_numbers (front_len earlier) (front_len later) v.0 ∙ sym of_b.len in
       let left : left_bytes a ≡ left_bytes b =
       ap (λ (k : ℕ). past_front k earlier.bytes) of_a.len ∙ tied_texts (past_front (front_len earlier) earlier.bytes) (past_front (front_len later) later.bytes) v.1 ∙ sym (ap (λ (k : ℕ). past_front k later.bytes) of_b.len) in
-      and_from (a.front == b.front && a.len == b.len) (not (b.len == 9) || bytes_eq (left_bytes a) (left_bytes b))
-      (and_from (a.front == b.front) (a.len == b.len) ((Decides-eqb a.front b.front).1 front) ((Decides-eqb a.len b.len).1 len))
-      (or_right (not (b.len == 9)) (bytes_eq (left_bytes a) (left_bytes b)) ((bytes_eq-Decides (left_bytes a) (left_bytes b)).1 left))
+      and_from (a.front.first == b.front.first && a.front.next == b.front.next && a.len == b.len) (not (b.len == 17) || bytes_eq (left_bytes a) (left_bytes b))
+      (and_from (a.front.first == b.front.first && a.front.next == b.front.next) (a.len == b.len)
+      (and_from (a.front.first == b.front.first) (a.front.next == b.front.next) ((Decides-eqb a.front.first b.front.first).1 first) ((Decides-eqb a.front.next b.front.next).1 next))
+      ((Decides-eqb a.len b.len).1 len))
+      (or_right (not (b.len == 17)) (bytes_eq (left_bytes a) (left_bytes b)) ((bytes_eq-Decides (left_bytes a) (left_bytes b)).1 left))
 
   -- ---- the parent as it is stored
 
