@@ -9,6 +9,7 @@ pub(crate) mod filing_laws;
 pub(crate) mod filter;
 pub(crate) mod filtering_laws;
 pub(crate) mod job;
+pub(crate) mod lightness;
 pub(crate) mod list;
 pub(crate) mod opening;
 pub(crate) mod owner;

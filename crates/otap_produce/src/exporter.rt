@@ -1,8 +1,11 @@
 //! Exports requests: a batch message for each, after those of its segment.
-ghost use Rattle.std.specs.Prelude.{[], ◌≡◌, ◌≤◌, ◌<◌, ◌+◌, ◌*◌, ℕ, pos, List, true, false, IfOk, IfErr, OnOk, OnErr};
+ghost use Rattle.std.specs.Prelude.{[], ◌≡◌, ◌≤◌, ◌<◌, ◌+◌, ◌*◌, ℕ, pos, List, true, false, IsTrue, ◌↔◌, IfOk, IfErr, OnOk, OnErr};
 ghost use Rattle.std.specs.List.{flat_map};
 ghost use Rattle.otlp_model.specs.declared.request.Request.{Request};
+ghost use Rattle.otlp_model.specs.Limits.{weight_limit};
+ghost use Rattle.otlp_model.specs.Weight.{weight_of};
 ghost use Rattle.otlp_model.specs.Profile.{IsProfile};
+ghost use Rattle.otlp_model.specs.Real.{IsReal};
 ghost use Rattle.otlp_model.specs.Telemetry.{signal_of};
 ghost use Rattle.otap_capture.specs.Batch.{payloads_in};
 ghost use Rattle.otap_cells.specs.Payload.{kinds_of};
@@ -75,7 +78,26 @@ impl Exporter {
         ensures after { IfErr result (λ refusal. AfterRefusal refusal self.old self.new) }
         ensures signal { self.new.signal ≡ self.old.signal }
     {
-        check(self.signal, self.broken, request)?;
+        self.encode_weighed(request, false)
+    }
+
+    /// The same for a request that may be known to weigh at most `MAX_TREE_WEIGHT`: where `light` says so, it isn't weighed.
+    pub fn encode_weighed(
+        &mut self,
+        request: &Request,
+        light: bool,
+    ) -> Result<Vec<u8>, ProduceRefusal>
+        requires signal { signal_of request.now ≡ self.old.signal }
+        requires profile { IsProfile request.now }
+        requires batches { self.old.batches < batch_limit }
+        requires light { IsTrue light → weight_of request.now ≤ weight_limit }
+        requires real { IsTrue light → IsReal request.now }
+        ensures exports { IfOk result (λ bytes. Exports (rows_by self.old.signal) request.now self.old self.new bytes.items) }
+        ensures refuses { IfErr result (Refuses (rows_by self.old.signal) request.now self.old.broken) }
+        ensures after { IfErr result (λ refusal. AfterRefusal refusal self.old self.new) }
+        ensures signal { self.new.signal ≡ self.old.signal }
+    {
+        check(self.signal, self.broken, request, light)?;
         self.broken = true;
         let bytes = message_of(
             self.alloc,
@@ -130,9 +152,11 @@ impl Exporter {
 }
 
 /// Whether a request is exported; nothing is written yet.
-fn check(signal: Signal, broken: bool, request: &Request) -> Result<(), ProduceRefusal>
+fn check(signal: Signal, broken: bool, request: &Request, light: bool) -> Result<(), ProduceRefusal>
     requires signal { signal_of request.now ≡ signal }
     requires profile { IsProfile request.now }
+    requires light { IsTrue light → weight_of request.now ≤ weight_limit }
+    requires real { IsTrue light → IsReal request.now }
     ensures sound { OnOk result (broken ≡ false) }
     ensures exported { OnOk result (IsExported (rows_by signal) request.now) }
     ensures refuses { IfErr result (RefusesUnwritten (rows_by signal) request.now broken) }
@@ -143,10 +167,23 @@ fn check(signal: Signal, broken: bool, request: &Request) -> Result<(), ProduceR
     if items(request) > MAX_ITEMS {
         return Err(ProduceRefusal::TooManyItems);
     }
-    if weight(request) > MAX_TREE_WEIGHT || row_weight(request) > MAX_ROW_WEIGHT {
+    if is_heavy(request, light) || row_weight(request) > MAX_ROW_WEIGHT {
         return Err(ProduceRefusal::TooHeavy);
     }
     Ok(())
+}
+
+/// Whether a request weighs more than `MAX_TREE_WEIGHT`. One that is known to be light isn't weighed.
+fn is_heavy(request: &Request, light: bool) -> bool
+    requires light { IsTrue light → weight_of request.now ≤ weight_limit }
+    requires real { IsTrue light → IsReal request.now }
+    ensures heavy { IsTrue result ↔ (weight_limit < weight_of request.now) }
+    ensures real { IsReal request.now }
+{
+    if light {
+        return false;
+    }
+    weight(request) > MAX_TREE_WEIGHT
 }
 
 /// The message of a request that is exported.

@@ -1,9 +1,12 @@
 //! `encode`: the batch message of each request.
-ghost use Rattle.std.specs.Prelude.{[], ◌≡◌, ◌<◌, IfOk};
+ghost use Rattle.std.specs.Prelude.{[], ◌≡◌, ◌<◌, ◌≤◌, ◌*◌, IfOk};
 ghost use Rattle.otap_capture.specs.Capture.{Message, frame_of};
 ghost use Rattle.otap_produce.specs.Exporters.{StandsFor};
 ghost use Rattle.otap_produce.specs.Limits.{batch_limit};
+ghost use Rattle.otlp_codec.specs.Limits.{weight_for_byte};
 ghost use Rattle.otlp_model.specs.Profile.{IsProfile};
+ghost use Rattle.otlp_model.specs.Real.{IsReal};
+ghost use Rattle.otlp_model.specs.Weight.{weight_of};
 ghost use Rattle.otlp_model.specs.Telemetry.{signal_of};
 ghost use Rattle.otap_gateway.specs.declared.jobs.command.Command.TheVariants as command;
 ghost use Rattle.otap_signals.specs.BySignal.{rows_by, meaning_by};
@@ -12,12 +15,13 @@ ghost use Rattle.otap_gateway.specs.EncodingSteps.{EncodesFrame, EncodesRequest,
 ghost use Rattle.otap_gateway.specs.JobStates.{HasRepliedBy};
 
 use crate::jobs::job::Job;
+use crate::jobs::lightness::is_light;
 use crate::jobs::refused_requests::{refusal_name, refused};
 use crate::jobs::reply::Reply;
 use otap_capture::Frame;
 use otap_produce::{Exporter, ProduceRefusal};
 use otap_transit::laws::what_is_sent_arrives;
-use otlp_codec::RequestReader;
+use otlp_codec::{RequestReader, read_is_light, read_is_real};
 use otlp_model::{Request, Signal};
 use std::alloc::{AllocError, Global};
 
@@ -85,7 +89,9 @@ fn encode_message(
 {
     match reader.read(exporter.signal(), bytes) {
         Ok(request) => {
-            let reply = encode_request(alloc, exporter, number, &request)?;
+            read_is_light();
+            read_is_real();
+            let reply = encode_request(alloc, exporter, number, &request, bytes.len())?;
             reader.take_back(request);
             Ok(reply)
         }
@@ -93,20 +99,24 @@ fn encode_message(
     }
 }
 
+/// The request was read of `len` bytes.
 fn encode_request(
     alloc: Global,
     exporter: &mut Exporter,
     number: u64,
     request: &Request,
+    len: usize,
 ) -> Result<Reply, AllocError>
     requires history { IsEncoding (rows_by exporter.old.signal) exporter.old }
     requires few { exporter.old.batches < batch_limit }
     requires of_signal { signal_of request.now ≡ exporter.old.signal }
     requires profile { IsProfile request.now }
+    requires light { weight_of request.now ≤ weight_for_byte * len }
+    requires real { IsReal request.now }
     ensures encodes { IfOk result (EncodesRequest (rows_by exporter.old.signal) exporter.old exporter.new number request.now) }
     ensures signal { exporter.new.signal ≡ exporter.old.signal }
 {
-    match exporter.encode(request) {
+    match exporter.encode_weighed(request, is_light(len)) {
         Ok(message) => Reply::frame(alloc, &message),
         Err(ProduceRefusal::TooManyItems) => refused(alloc, number, "TooManyItems"),
         Err(ProduceRefusal::TooHeavy) => refused(alloc, number, "TooHeavy"),

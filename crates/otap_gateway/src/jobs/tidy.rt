@@ -8,11 +8,12 @@ ghost use Rattle.otap_gateway.specs.declared.jobs.command.Command.TheVariants as
 ghost use Rattle.otap_gateway.specs.Tidying.{TidiesFrame, TidiesMessage, tidied};
 
 use crate::jobs::job::Job;
+use crate::jobs::lightness::is_light;
 use crate::jobs::refused_requests::{refusal_name, refused};
 use crate::jobs::reply::Reply;
 use crate::jobs::spare::Spare;
 use otap_capture::{FRAME_HEAD, Frame};
-use otlp_codec::{RequestReader, WEIGHT_FOR_BYTE, put_request, read_is_light};
+use otlp_codec::{RequestReader, put_request, read_is_light};
 use otlp_model::{MAX_ITEMS, MAX_TREE_WEIGHT, Request, Signal, items, weight};
 use std::alloc::{AllocError, Global};
 
@@ -124,5 +125,5 @@ fn is_too_heavy(request: &Request, len: usize) -> bool
     requires light { weight_of request.now ≤ weight_for_byte * len }
     ensures { IsTrue result ↔ (weight_limit < weight_of request.now) }
 {
-    len as u64 > MAX_TREE_WEIGHT / WEIGHT_FOR_BYTE && weight(request) > MAX_TREE_WEIGHT
+    !is_light(len) && weight(request) > MAX_TREE_WEIGHT
 }

@@ -2,7 +2,7 @@ use Rattle.std.proofs.Common.{◌+◌, false, pos, refl, ◌∙◌, subst, arith
 use Rattle.otap_produce.specs.Exporters.{ExporterIn, Exports}
 use Rattle.otap_signals.specs.BySignal.{rows_by, tables_of_request}
 use Rattle.otap_produce.proofs.Exporting.{exports, history_sent}
-use Rattle.otap_produce.proofs.exporter.Exporter.encode.Goals as goal
+use Rattle.otap_produce.proofs.exporter.Exporter.encode_weighed.Goals as goal
 
 pub invariant_of-self-2 : goal.invariant_of-self-2
 invariant_of-self-2 c =
