@@ -5,6 +5,7 @@ The files segment-SIGNAL-KIND.batches hold the batch that opens a segment, and o
 by an independent implementation of the exporter, from the requests `realistic(SIGNAL, 320)` and `short(SIGNAL, 400)`."""
 
 import os
+import sys
 
 import dense
 import measure
@@ -39,3 +40,22 @@ def requests(frame):
 def captures(segment, segments):
     """Files with that many segments, and with a quarter of them."""
     return tuple(measure.capture([segment], n * len(segment)) for n in (segments, segments // 4))
+
+
+def time_on_requests(job, limits, short_limits):
+    """Compares a job with another program, by the words of the command line, SIGNAL and PROGRAM: on 64 MiB of realistic
+    requests of some hundred items, and on as much of items with twelve short attributes. False where a limit isn't kept."""
+    measure.need_program()
+    signal, program, *_ = [*sys.argv[1:], None] if len(sys.argv) > 1 else ["logs", None]
+    kinds = (("realistic items", realistic(signal, 320), limits), ("twelve short attributes an item", short(signal, 400), short_limits))
+    return all([time_on_frame(name, [job, signal], frame, program, kept) for name, frame, kept in kinds])
+
+
+def time_on_frame(name, words, frame, program, limits):
+    segment = requests(frame)
+    whole, quarter = captures(segment, 4 * round(16 * measure.MIB / len(segment)))
+    try:
+        return measure.compare(name, words, whole, quarter, whole, program, limits)
+    finally:
+        for file in (whole, quarter):
+            os.remove(file)
