@@ -68,7 +68,7 @@ def in_a_row(command, source, times=1):
 def side_by_side(calls, rounds=10):
     """Some runs of each of several programs in turn, so that what else the machine does concerns all alike: for each call,
     a command and its source and perhaps how often it runs in a row, what `joined` makes of its runs. All must end with
-    status 0. On a virtual machine five runs of a program may all be slow ones; of ten, one seldom isn't quick."""
+    status 0. The more runs, the less the least time tells of what else a virtual machine's host does."""
     turns = [[in_a_row(*call) for call in calls] for _ in range(rounds)]
     found = [joined(runs) for runs in zip(*turns)]
     for (command, *_), one in zip(calls, found):
