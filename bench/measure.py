@@ -1,6 +1,7 @@
 """What the benchmarks share: where the built program is, runs with their times and peak memory, and captures."""
 
 import os
+import statistics
 import subprocess
 import sys
 import tempfile
@@ -28,12 +29,14 @@ def capture(parts, size):
 
 
 class Run(NamedTuple):
-    """How a program ended, the seconds on the wall and of the processors, and the peak memory in bytes."""
+    """How a program ended, the seconds on the wall and of the processors, and the peak memory in bytes. Of several runs also
+    by how much they scatter: the middle of their processor times in parts of the least."""
 
     status: int
     wall: float
     processor: float
     memory: int
+    scatter: float = 1.0
 
 
 def run(command, source, target=os.devnull):
@@ -48,8 +51,10 @@ def run(command, source, target=os.devnull):
 
 
 def joined(runs):
-    """Of some runs the greatest status and memory, and the least times."""
-    return Run(max(r.status for r in runs), min(r.wall for r in runs), min(r.processor for r in runs), max(r.memory for r in runs))
+    """Of some runs the greatest status and memory, the least times, and by how much they scatter."""
+    least, middle = min(r.processor for r in runs), statistics.median(r.processor for r in runs)
+    scatter = middle / least if least else 1.0
+    return Run(max(r.status for r in runs), min(r.wall for r in runs), least, max(r.memory for r in runs), scatter)
 
 
 def best(command, source, target=os.devnull, rounds=3):
@@ -65,7 +70,11 @@ def in_a_row(command, source, times=1):
     return Run(max(r.status for r in runs), wall / times, processor / times, max(r.memory for r in runs))
 
 
-def side_by_side(calls, rounds=10):
+# So many runs of each program, in turn.
+ROUNDS = 10
+
+
+def side_by_side(calls, rounds=ROUNDS):
     """Some runs of each of several programs in turn, so that what else the machine does concerns all alike: for each call,
     a command and its source and perhaps how often it runs in a row, what `joined` makes of its runs. All must end with
     status 0. The more runs, the less the least time tells of what else a virtual machine's host does."""
@@ -171,4 +180,7 @@ def compare(name, words, whole, quarter, requests, program, limits):
     print(f"  {full.memory / MIB:.1f} MiB at the peak (at most {most / MIB:.1f})")
     for other in peer:
         print(f"  {full.processor / other.processor:.2f} of {os.path.basename(program)} (at most {limits.program})")
+    beside = [("md5sum", base), *((os.path.basename(program), other) for other in peer)]
+    scatters = ", ".join(f"{run.scatter:.2f} for {of}" for of, run in beside)
+    print(f"  times scatter: the middle of {ROUNDS} is {scatters} times the least, {full.scatter:.2f} for the job")
     return growth <= limits.growth and full.memory <= most and all(full.processor <= limits.program * p.processor for p in peer)
