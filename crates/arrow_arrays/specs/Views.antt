@@ -22,12 +22,7 @@ span_between offsets values width row =
 
 -- a row's value, whether it is null or not
 unfoldable pub value_seen : Stored → ℕ → Option (List ℕ)
-value_seen stored.Nothing row = Some []
 value_seen (stored.Bits bytes) row = Some (bit_byte (is_valid bytes.now row))
-value_seen (stored.One bytes) row = part_between bytes.now (row * 1) ((row + 1) * 1)
-value_seen (stored.Two bytes) row = part_between bytes.now (row * 2) ((row + 1) * 2)
-value_seen (stored.Four bytes) row = part_between bytes.now (row * 4) ((row + 1) * 4)
-value_seen (stored.Eight bytes) row = part_between bytes.now (row * 8) ((row + 1) * 8)
 value_seen (stored.Fixed bytes width) row = part_between bytes.now (row * width) ((row + 1) * width)
 value_seen (stored.Spans offsets values width) row = span_between offsets.now values.now width row
 

@@ -14,15 +14,8 @@ use byteorder::{ByteOrder, LittleEndian};
 /// The bytes that hold the values of a column.
 #[derive(Clone, Copy, Debug)]
 pub(crate) enum Stored<'a> {
-    /// No bytes for any row.
-    Nothing,
     Bits(&'a [u8]),
-    /// Values of 1, 2, 4 or 8 bytes.
-    One(&'a [u8]),
-    Two(&'a [u8]),
-    Four(&'a [u8]),
-    Eight(&'a [u8]),
-    /// Values of any one width.
+    /// Values of one width, which is 0 where no row has bytes.
     Fixed(&'a [u8], u32),
     /// Offsets, and the elements that they count, of one width.
     Spans(&'a [u8], &'a [u8], u32),
@@ -58,7 +51,7 @@ impl<'a> ColumnView<'a> {
             own: &[],
             above: &[],
             top: &[],
-            stored: Stored::Nothing,
+            stored: Stored::Fixed(&[], 0),
         }
     }
 
@@ -91,7 +84,7 @@ impl<'a> ColumnView<'a> {
         ensures { result ≡ true → (row : ℕ) → HoldsBelow count (cell_seen self.now row) }
     {
         match self.stored {
-            Stored::One(bytes) => are_below(bytes, count),
+            Stored::Fixed(bytes, 1) => are_below(bytes, count),
             _ => false,
         }
     }
@@ -153,20 +146,6 @@ impl<'a> ColumnView<'a> {
 }
 
 impl<'a> Stored<'a> {
-    /// Values of one width.
-    #[tactic(auto, unfolding(crate::specs::Views::value_seen))]
-    pub(crate) fn fixed(bytes: &'a [u8], width: u32) -> Stored<'a>
-        ensures { (row : ℕ) → value_seen result row ≡ part_between bytes.now (row * width) ((row + 1) * width) }
-    {
-        match width {
-            1 => Stored::One(bytes),
-            2 => Stored::Two(bytes),
-            4 => Stored::Four(bytes),
-            8 => Stored::Eight(bytes),
-            _ => Stored::Fixed(bytes, width),
-        }
-    }
-
     #[inline(always)]
     #[tactic(auto, unfolding(crate::specs::Views::value_seen))]
     fn index(&self, row: u64) -> Option<usize>
@@ -174,8 +153,8 @@ impl<'a> Stored<'a> {
         ensures { result ≡ number_in (value_seen self.now row) }
     {
         match *self {
-            Stored::One(bytes) => byte_at(bytes, row),
-            Stored::Two(bytes) => pair_at(bytes, row),
+            Stored::Fixed(bytes, 1) => byte_at(bytes, row),
+            Stored::Fixed(bytes, 2) => pair_at(bytes, row),
             _ => number_in(self.value(row)),
         }
     }
@@ -186,12 +165,7 @@ impl<'a> Stored<'a> {
         ensures { option_copied result ≡ value_seen self.now row }
     {
         match *self {
-            Stored::Nothing => Some(&[]),
             Stored::Bits(bytes) => Some(bit_byte(has(bytes, row))),
-            Stored::One(bytes) => part_in(bytes, row, 1),
-            Stored::Two(bytes) => part_in(bytes, row, 2),
-            Stored::Four(bytes) => part_in(bytes, row, 4),
-            Stored::Eight(bytes) => part_in(bytes, row, 8),
             Stored::Fixed(bytes, width) => part(bytes, row, width),
             Stored::Spans(offsets, values, width) => span(offsets, values, width, row),
         }
@@ -261,19 +235,6 @@ fn bit_byte(bit: bool) -> &'static [u8]
     ensures { result.now ≡ bit_byte bit }
 {
     if bit { &[1] } else { &[0] }
-}
-
-/// The value of a row, where all have a width that is known when the program is built: to divide by it takes no division.
-#[inline(always)]
-fn part_in(bytes: &[u8], row: u64, width: usize) -> Option<&[u8]>
-    requires { 0 < width }
-    ensures { option_copied result ≡ part_between bytes.now (row * width) ((row + 1) * width) }
-{
-    if row >= (bytes.len() / width) as u64 {
-        return None;
-    }
-    let start = row as usize * width;
-    Some(&bytes[start..start + width])
 }
 
 /// The value of a row, where all have one width.

@@ -53,9 +53,9 @@ fn stored_at<'v>(batch: &BatchView<'v>, place: u32, layout: Layout) -> Stored<'v
     ensures { (row : ℕ) → value_seen result row ≡ value_by_buffers batch.now place layout row }
 {
     match layout {
-        Layout::Struct => Stored::Nothing,
+        Layout::Struct => Stored::Fixed(&[], 0),
         Layout::Bits => Stored::Bits(bytes_at(batch, place)),
-        Layout::Fixed(width) => Stored::fixed(bytes_at(batch, place), width),
+        Layout::Fixed(width) => Stored::Fixed(bytes_at(batch, place), width),
         Layout::Binary | Layout::Text => {
             Stored::Spans(bytes_at(batch, place), bytes_at(batch, place + 1), 1)
         }

@@ -214,7 +214,7 @@ fn same_cell<R: Rows>(rows: &R, column: u32, a: u64, b: u64) -> bool
     requires b { b < length (R.table rows.now).rows }
     ensures { result ≡ cell_is (cell_in (R.table rows.now).rows column a) (cell_in (R.table rows.now).rows column b) }
 {
-    same_view(rows.cell(column, a), rows.cell(column, b))
+    rows.lacks(column) || same_view(rows.cell(column, a), rows.cell(column, b))
 }
 
 /// Whether two cells are equal.

@@ -29,17 +29,17 @@ fn stored(base: Base, value: &[u8]) -> CellView<'_>
     requires { FitsBase base value.now }
     ensures { seen result ≡ stored base value.now }
 {
-    match base {
-        Base::U8 => CellView::Num(i64::from(value[0])),
-        Base::U16 => CellView::Num(i64::from(narrow(value))),
-        Base::U32 => CellView::Num(i64::from(wide(value))),
-        Base::Id { .. } => CellView::Num(i64::from(id(value))),
-        Base::I32 => CellView::Num(i64::from(LittleEndian::read_i32(value))),
-        Base::I64 => CellView::Num(LittleEndian::read_i64(value)),
-        Base::U64 | Base::Double | Base::Timestamp | Base::Duration => CellView::Bits(long(value)),
-        Base::Bool => CellView::Flag(value[0] == 1),
-        Base::Utf8 | Base::Binary | Base::Fixed16 | Base::Fixed8 | Base::ListU64 | Base::ListF64 =>
-            CellView::Bytes(value),
+    if base.has_bytes() {
+        return CellView::Bytes(value);
+    }
+    match value.len() {
+        1 if base == Base::Bool => CellView::Flag(value[0] == 1),
+        1 => CellView::Num(i64::from(value[0])),
+        2 => CellView::Num(i64::from(narrow(value))),
+        4 if base == Base::I32 => CellView::Num(i64::from(LittleEndian::read_i32(value))),
+        4 => CellView::Num(i64::from(wide(value))),
+        _ if base == Base::I64 => CellView::Num(LittleEndian::read_i64(value)),
+        _ => CellView::Bits(long(value)),
     }
 }
 

@@ -8,8 +8,8 @@ use arrow_ipc::BatchView;
 use otap_cells::{Base, CellView, Coding, Kind, Rows, columns};
 use std::marker::Model;
 
-/// Room for the columns of any table, and for some that are to come.
-pub(crate) const COLUMN_ROOM: usize = 32;
+/// Room for the columns of any table.
+pub(crate) const COLUMN_ROOM: usize = 25;
 
 /// The table of a record. It hands out parts of the record's bytes and of the reader's dictionaries, and takes no memory. A
 /// contract sees it as the table.

@@ -5,6 +5,6 @@ use Rattle.otap_columns.proofs.reader.view.RowsView.new.Given as goal
 
 abbrev pub invariant-columns : goal.invariant-columns
 invariant-columns l = record {
-  long : length l.found ≡ 32;
+  long : length l.found ≡ 25;
   columns : (k : ℕ) (d : ResolvedColumn) → k < l.column → IsColumn l.reader.kind l.reader.substream l.batch k (get_or l.found k d);
 }
