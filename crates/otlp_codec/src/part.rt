@@ -1,13 +1,14 @@
 //! Messages that are read by one loop over their fields.
 
-ghost use Rattle.std.specs.Prelude.{◌≡◌, ℕ, List, fold, IfOk, IfErr, OnOk};
+ghost use Rattle.std.specs.Prelude.{◌≡◌, ◌<◌, ℕ, List, fold, IfOk, IfErr, OnOk};
 ghost use Rattle.otlp_wire.specs.Wire.{Entry, entry, value_of};
 ghost use Rattle.otlp_wire.specs.Fields.{fields_of};
 ghost use Rattle.otlp_messages.specs.declared.messages.Message.{Message};
 ghost use Rattle.otlp_messages.specs.declared.messages.FieldKind.TheVariants as kinds;
 ghost use Rattle.otlp_messages.specs.declared.messages.Message.TheVariants as messages;
 ghost use Rattle.otlp_messages.specs.declared.messages.ItemKind.{ItemKind};
-ghost use Rattle.otlp_messages.specs.Table.{kind_of, item_of};
+ghost use Rattle.otlp_messages.specs.Limits.{mark_limit};
+ghost use Rattle.otlp_messages.specs.Table.{kind_of, item_of, mark_of};
 ghost use Rattle.otlp_messages.specs.Defects.{IsFine};
 ghost use Rattle.otlp_messages.specs.Fine.{FineValue};
 ghost use Rattle.otlp_messages.specs.Rows.{embedded_in, many_in};
@@ -91,7 +92,7 @@ fn fill<P: Submessage>(pool: &mut Pool, part: &mut P, bytes: &[u8]) -> Result<()
         let Ok(field) = next else {
             return Err(ReadRefusal::BadMessage);
         };
-        let mark = row_of(P::message(), field.number).mark;
+        let mark = mark_of::<P>(field.number);
         if seen[mark] {
             return Err(ReadRefusal::Repeated);
         }
@@ -99,6 +100,15 @@ fn fill<P: Submessage>(pool: &mut Pool, part: &mut P, bytes: &[u8]) -> Result<()
         part.take(pool, &field)?;
     }
     Ok(())
+}
+
+/// The mark of a field of the message. It stays a call of its own, which looks it up in a table; a jump would take longer.
+#[inline(never)]
+fn mark_of<P: Submessage>(number: u32) -> usize
+    ensures mark { result ≡ mark_of P.named number }
+    ensures few { result < mark_limit }
+{
+    row_of(P::message(), number).mark
 }
 
 /// Reads one more message of those that may occur any number of times.

@@ -1,11 +1,8 @@
-use Rattle.std.proofs.Common.{◌≡◌, ℕ, refl, ap, ◌∙◌, subst}
+use Rattle.std.proofs.Common.{◌≡◌, ℕ, refl, ◌∙◌, subst}
 use Rattle.std.specs.Prelude.{slice_index_or, true, false}
 use Rattle.std.proofs.lemmas.Result.{err_from_is_err_and}
 use Rattle.lists.proofs.Parts.{same_all_over}
 use Rattle.otlp_wire.specs.Wire.{entry}
-use Rattle.otlp_messages.specs.declared.messages.Message.{Message}
-use Rattle.otlp_messages.specs.declared.messages.Row.{Row}
-use Rattle.otlp_messages.specs.Table.{mark_of}
 use Rattle.otlp_messages.specs.Defects.{wire_error}
 use Rattle.otlp_messages.specs.Limits.{mark_limit}
 use Rattle.otlp_messages.proofs.Steps.{twice_stands}
@@ -24,18 +21,14 @@ returns-in_default-clause-fault g c =
 pub returns-then-seen-mark-clause-fault : goal.returns-then-seen-mark-clause-fault
 returns-then-seen-mark-clause-fault g c =
     let first = rw c.in-Ok.is at c.in-Some.ensures.steps in
-    let mark : c.row_of-mark.result.mark ≡ mark_of g.P.Submessage.named c.in-Ok.field.number =
-    ap (λ (r : Row). r.mark) c.row_of-mark.ensures.row ∙ ap (λ (m : Message). mark_of m c.in-Ok.field.number) c.message.ensures in
     twice_stands _ _ _ _ _ _ (entry c.in-Ok.field) c.fields.invariant.checked first.0
-    (subst (λ (k : ℕ). slice_index_or c.fields.seen k false ≡ true) mark c.if-seen-mark.true)
+    (subst (λ (k : ℕ). slice_index_or c.fields.seen k false ≡ true) c.mark_of-mark.ensures.mark c.if-seen-mark.true)
 
 pub fields-preserved : goal.fields-preserved
 fields-preserved g c =
     let first = rw c.in-Ok.is at c.in-Some.ensures.steps in
-    let mark : c.row_of-mark.result.mark ≡ mark_of g.P.Submessage.named c.in-Ok.field.number =
-    ap (λ (r : Row). r.mark) c.row_of-mark.ensures.row ∙ ap (λ (m : Message). mark_of m c.in-Ok.field.number) c.message.ensures in
-    passes_more _ _ _ _ _ _ _ _ _ _ (entry c.in-Ok.field) c.row_of-mark.result.mark c.fields.invariant first mark
-    c.row_of-mark.ensures.few c.if-seen-mark.false c.in_ok-take.ensures.ok c.in_ok-take.ensures.fine
+    passes_more _ _ _ _ _ _ _ _ _ _ (entry c.in-Ok.field) c.mark_of-mark.result c.fields.invariant first c.mark_of-mark.ensures.mark
+    c.mark_of-mark.ensures.few c.if-seen-mark.false c.in_ok-take.ensures.ok c.in_ok-take.ensures.fine
 
 pub returns-in_err-take-clause-fault : goal.returns-in_err-take-clause-fault
 returns-in_err-take-clause-fault g c =
