@@ -8,7 +8,9 @@ ghost use Rattle.arrow_buffers.specs.Building.{HasValueForEach, OffsetsFit, Push
 use crate::Width;
 use crate::flags::{push_flag, push_null_flags, reserve_flag};
 use crate::nulls::{push_null_parts, push_null_spans};
-use crate::packing::{push_bit, push_offset, push_part, push_span, push_zeros, reserve_bit};
+use crate::packing::{
+    LEAST_ROOM, push_bit, push_offset, push_part, push_span, push_zeros, reserve_bit,
+};
 use std::alloc::{AllocError, Global};
 use std::marker::Model;
 
@@ -74,7 +76,7 @@ impl ColumnBuilder {
         ensures { IfOk result (λ c. c ≡ record { width = width; cells = [] }) }
     {
         let offsets = Vec::with_capacity(alloc, offsets_room(width, rows))?;
-        let values = Vec::with_capacity(alloc, values_room(width, rows))?;
+        let values = Vec::with_capacity(alloc, LEAST_ROOM.max(values_room(width, rows)))?;
         Ok(ColumnBuilder {
             width,
             rows: 0,

@@ -9,6 +9,9 @@ ghost use Rattle.arrow_buffers.specs.Packed.{IsPacked, PushesBit, PushesZeros};
 use byteorder::{ByteOrder, LittleEndian};
 use std::alloc::AllocError;
 
+/// The bytes of bits or values for which there is room from the first ones on.
+pub(crate) const LEAST_ROOM: usize = 64;
+
 /// Makes room for the bit after the first `count`.
 #[inline(always)]
 pub(crate) fn reserve_bit(bytes: &mut Vec<u8>, count: u64) -> Result<(), AllocError>
@@ -16,7 +19,7 @@ pub(crate) fn reserve_bit(bytes: &mut Vec<u8>, count: u64) -> Result<(), AllocEr
     ensures ok { OnOk result (count / 8 < vec_capacity bytes.new) }
 {
     let len = (count / 8) as usize + 1;
-    bytes.reserve(len.saturating_sub(bytes.len()))
+    bytes.reserve(LEAST_ROOM.max(len).saturating_sub(bytes.len()))
 }
 
 /// Puts a bit after the first `count`. There is room for it.

@@ -15,6 +15,12 @@ pub const MAX_PARTS: usize = 65_536;
 /// What the body of a new batch stays below, in bytes.
 pub const MAX_BODY: usize = 1 << 29;
 
+/// The nodes, and the buffers, for which there is room from the first one on.
+const LEAST_PARTS: usize = 32;
+
+/// The bytes of a body for which there is room from the first ones on.
+const LEAST_ROOM: usize = 1024;
+
 /// Builds a record batch. A contract sees it as the batch that was built so far.
 #[derive(Debug, Drop)]
 pub struct BatchBuilder {
@@ -59,6 +65,8 @@ impl BatchBuilder {
         ensures ok { OnOk result (self.new ≡ record self.old { nodes = self.old.nodes ++ (pos rows, pos nulls) ∷ [] }) }
         ensures err { OnErr result (self.new ≡ self.old) }
     {
+        self.nodes
+            .reserve(LEAST_PARTS.saturating_sub(self.nodes.len()))?;
         self.nodes.push((rows as i64, nulls as i64))?;
         Ok(())
     }
@@ -72,7 +80,8 @@ impl BatchBuilder {
     {
         let end = self.body.len();
         let offset = padded(end);
-        self.places.reserve(1)?;
+        self.places
+            .reserve(LEAST_PARTS.saturating_sub(self.places.len()).max(1))?;
         append(&mut self.body, offset, part)?;
         self.places.push((offset as i64, part.len() as i64))?;
         Ok(())
@@ -123,7 +132,7 @@ fn append(body: &mut Vec<u8>, offset: usize, part: &[u8]) -> Result<(), AllocErr
     ensures ok { OnOk result (body.new.items ≡ body.old.items ++ (replicate (offset - vec_len body.old) 0 ++ part.now)) }
     ensures err { OnErr result (body.new.items ≡ body.old.items) }
 {
-    body.reserve(offset + part.len() - body.len())?;
+    body.reserve(LEAST_ROOM.max(offset + part.len()) - body.len())?;
     body.resize(offset, 0)?;
     body.extend_from_slice(part)?;
     Ok(())

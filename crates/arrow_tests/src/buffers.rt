@@ -23,10 +23,10 @@ fn views_what_was_checked(rt: HostRuntime) -> Result<(), Fail> {
 
 #[test]
 fn makes_room_for_rows(rt: HostRuntime) -> Result<(), Fail> {
-    let mut ints = ColumnBuilder::for_rows(rt.alloc(), Width::Fixed(4), 2)?;
-    ints.push_nulls(2)?;
+    let mut ints = ColumnBuilder::for_rows(rt.alloc(), Width::Fixed(4), 20)?;
+    ints.push_nulls(20)?;
     let ints = ints.finish()?;
-    assert_eq!(rt; ints.values.capacity(), 8);
+    assert_eq!(rt; ints.values.capacity(), 80);
 
     let mut names = ColumnBuilder::for_rows(rt.alloc(), Width::Var, 2)?;
     names.push_nulls(2)?;

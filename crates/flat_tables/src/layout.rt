@@ -17,6 +17,9 @@ pub(crate) fn padding(len: usize) -> usize
     (8 - len % 8) % 8
 }
 
+/// The bytes for which there is room from the first ones on.
+const LEAST_ROOM: usize = 256;
+
 /// Appends a number, the content and zero bytes.
 #[tactic(auto, unfolding(crate::specs::Layout::piece))]
 pub(crate) fn append(
@@ -31,7 +34,7 @@ pub(crate) fn append(
     ensures err { OnErr result (bytes.new.items ≡ bytes.old.items) }
 {
     let end = bytes.len() + 4 + content.len() + pad;
-    bytes.reserve(4 + content.len() + pad)?;
+    bytes.reserve(LEAST_ROOM.max(end) - bytes.len())?;
     let mut number = [0; 4];
     LittleEndian::write_u32(&mut number, head);
     bytes.extend_from_slice(&number)?;

@@ -78,7 +78,7 @@ pub fn add_attributes<P: Attributed>(
 fn parts_alone<'a, C>(alloc: Global, parts: &[Placed<'a, C>]) -> Result<Vec<&'a C>, AllocError>
     ensures { IfOk result (λ found. map (λ part. part.now) found.items ≡ map (λ placed. placed.part.now) parts.now) }
 {
-    let mut found = Vec::new(alloc);
+    let mut found = Vec::with_capacity(alloc, parts.len())?;
     'parts: for placed in parts {
         found.push(placed.part)?;
     }

@@ -36,6 +36,7 @@ pub(crate) fn place_pairs<'a>(
     ensures are { OnOk result (map seen_placed placed.new.items ≡ map seen_placed placed.old.items ++ map (placed_at parent) pairs.now) }
     ensures nested { OnOk result (All HasNested placed.new.items) }
 {
+    placed.reserve(pairs.len())?;
     'pairs: for pair in pairs.as_slice() {
         placed.push(place_pair(alloc, parent, pair)?)?;
     }

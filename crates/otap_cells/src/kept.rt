@@ -1,4 +1,4 @@
-ghost use Rattle.std.specs.Prelude.{◌≡◌, [], ◌∷◌, ◌++◌, ◌+◌, ◌-◌, ◌<◌, ◌≤◌, ◌^◌, drop, length, take, true, replicate, slice_set, OnOk, OnErr, IfOk};
+ghost use Rattle.std.specs.Prelude.{◌≡◌, [], ◌∷◌, ◌++◌, ◌+◌, ◌-◌, ◌<◌, ◌≤◌, ◌^◌, if◌then◌else◌, drop, is_ok, length, take, true, vec_len, replicate, slice_set, OnOk, OnErr, IfOk};
 ghost use Rattle.std.specs.List.{slice_index_or};
 ghost use Rattle.otap_cells.specs.Cells.{seen, null, bytes_in};
 ghost use Rattle.otap_cells.specs.Inside.{cell_of_slot, reach};
@@ -98,7 +98,7 @@ impl Cells {
             push_slot(&mut self.slots, slot, room)?;
             return Ok(());
         }
-        self.slots.resize(row + 1, KeptCell::Null)?;
+        resize(&mut self.slots, row + 1, room)?;
         self.slots[row] = slot;
         Ok(())
     }
@@ -117,7 +117,7 @@ impl Cells {
             push_slot(&mut self.slots, slot, room)?;
             return Ok(());
         }
-        self.slots.resize(row + 1, KeptCell::Null)?;
+        resize(&mut self.slots, row + 1, room)?;
         self.slots[row] = slot;
         Ok(())
     }
@@ -162,6 +162,17 @@ fn push_slot(slots: &mut Vec<KeptCell>, slot: KeptCell, room: usize) -> Result<(
         slots.reserve(room)?;
     }
     slots.push(slot)?;
+    Ok(())
+}
+
+/// Fills slots up with nulls to `count`.
+fn resize(slots: &mut Vec<KeptCell>, count: usize, room: usize) -> Result<(), AllocError>
+    ensures items { slots.new.items ≡ (if is_ok result then take count slots.old.items ++ replicate (count - vec_len slots.old) slot.Null else slots.old.items) }
+{
+    if slots.is_empty() {
+        slots.reserve(room)?;
+    }
+    slots.resize(count, KeptCell::Null)?;
     Ok(())
 }
 

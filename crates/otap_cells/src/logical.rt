@@ -207,6 +207,7 @@ fn widen(alloc: Global, columns: &mut Vec<Cells>, width: usize) -> Result<(), Al
     ensures few { length columns.new.items ≤ width }
     ensures same { (column : ℕ) → slice_index_or columns.new.items column [] ≡ slice_index_or columns.old.items column [] }
 {
+    columns.reserve(width.saturating_sub(columns.len()))?;
     'columns: while columns.len() < width {
         columns.push(Cells::new(alloc))?;
     }

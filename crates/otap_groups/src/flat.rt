@@ -73,6 +73,7 @@ fn add_items<'a, I>(
 ) -> Result<(), AllocError>
     ensures { OnOk result (map seen_flat found.new.items ≡ map seen_flat found.old.items ++ map (flat_at resource_id scope_id resource.now group.now.scope) group.now.items) }
 {
+    found.reserve(group.items.len())?;
     'items: for item in group.items.as_slice() {
         found.push(Flat {
             resource_id,

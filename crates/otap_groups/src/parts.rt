@@ -76,7 +76,7 @@ pub fn parts_of<'a, P: PartsOf>(
     ensures parts { IfOk result (λ found. map seen_placed found.items ≡ placed (map (λ p. P.parts p.part.now) parents.now)) }
     ensures rising { IfOk result (λ found. RisingParts 0 (map seen_placed found.items)) }
 {
-    let mut found = Vec::new(alloc);
+    let mut found = Vec::with_capacity(alloc, parents.len())?;
     'parents: for place in 0..parents.len() {
         let parent = &parents[place];
         add_parts(&mut found, place as u32, below.parts(parent.part))?;
@@ -109,7 +109,7 @@ pub fn write_parts<W: PartWriter>(
 {
     let kind = writer.kind();
     let coding = coding_of(kind, shared_columns::part::PARENT_ID);
-    let mut table = LogicalTable::new(alloc, kind);
+    let mut table = LogicalTable::for_rows(alloc, kind, parts.len());
     let mut step = 0;
     let mut parent = 0;
     let mut before = None;

@@ -61,7 +61,7 @@ pub fn items_of<'a, I>(
     requires { length flat.now < 2 ^ 32 }
     ensures { IfOk result (λ found. map (λ p. p.part.now) found.items ≡ map (λ f. f.item.now) flat.now) }
 {
-    let mut found = Vec::new(alloc);
+    let mut found = Vec::with_capacity(alloc, flat.len())?;
     'items: for place in 0..flat.len() {
         let parent = place as u32;
         let part = flat[place].item;

@@ -32,7 +32,7 @@ fn starts_up_to_last(alloc: Global, entries: &[ChildEntry]) -> Result<Vec<usize>
     requires { AreByParent entries.now }
     ensures { IfOk result (λ starts. AreStarts entries.now starts.items) }
 {
-    let mut starts = Vec::new(alloc);
+    let mut starts = Vec::with_capacity(alloc, room_of(entries))?;
     'entries: for place in 0..entries.len() {
         let parent = entries[place].parent as usize;
         if parent < starts.len() {
@@ -42,6 +42,14 @@ fn starts_up_to_last(alloc: Global, entries: &[ChildEntry]) -> Result<Vec<usize>
     }
     starts.push(entries.len())?;
     Ok(starts)
+}
+
+/// For how many parents there are starts.
+fn room_of(entries: &[ChildEntry]) -> usize {
+    match entries.last() {
+        Some(entry) => entry.parent as usize + 2,
+        None => 1,
+    }
 }
 
 /// The part of the entries that has this parent, found at its start where that is known.

@@ -159,7 +159,7 @@ fn records_of<'a>(
 ) -> Result<Vec<&'a LogRecord>, AllocError>
     ensures { IfOk result (λ found. map (λ log. log.now) found.items ≡ map (λ row. row.item.now) rows.now) }
 {
-    let mut found = Vec::new(alloc);
+    let mut found = Vec::with_capacity(alloc, rows.len())?;
     'rows: for row in rows {
         found.push(row.item)?;
     }

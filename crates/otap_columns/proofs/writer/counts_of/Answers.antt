@@ -6,7 +6,7 @@ use Rattle.otap_columns.proofs.writer.counts_of.Goals as goal
 
 pub columns-init : goal.columns-init
 columns-init c =
-    subst (λ (xs : List ℕ). Made (λ column count. count ≡ length (columns_in c.args.seen.now column)) 0 0 xs) (sym c.new-counts.ensures.items)
+    subst (λ (xs : List ℕ). Made (λ column count. count ≡ length (columns_in c.args.seen.now column)) 0 0 xs) (sym c.in_ok-counts.ensures.items)
     (made_none (λ column count. count ≡ length (columns_in c.args.seen.now column)) 0)
 
 pub columns-preserved : goal.columns-preserved

@@ -10,7 +10,7 @@ use Rattle.otap_columns.proofs.writer.forms_of.Goals as goal
 
 pub columns-init : goal.columns-init
 columns-init c =
-    subst (λ (xs : List ColumnForm). Made (λ column f. f ≡ form_kept c.args.kind column (get_or c.args.seen.now column unseen)) form.Absent 0 xs) (sym c.new-forms.ensures.items)
+    subst (λ (xs : List ColumnForm). Made (λ column f. f ≡ form_kept c.args.kind column (get_or c.args.seen.now column unseen)) form.Absent 0 xs) (sym c.in_ok-forms.ensures.items)
     (made_none (λ column f. f ≡ form_kept c.args.kind column (get_or c.args.seen.now column unseen)) form.Absent)
 
 pub columns-preserved : goal.columns-preserved

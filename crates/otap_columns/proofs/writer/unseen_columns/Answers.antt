@@ -7,7 +7,7 @@ use Rattle.otap_columns.proofs.writer.unseen_columns.Goals as goal
 
 pub columns-init : goal.columns-init
 columns-init c =
-    subst (λ (xs : List SeenIn). Made (λ column s. IsSeenAfter c.args.kind [] column s) unseen 0 xs) (sym c.new-seen.ensures.items) (made_none (λ column s. IsSeenAfter c.args.kind [] column s) unseen)
+    subst (λ (xs : List SeenIn). Made (λ column s. IsSeenAfter c.args.kind [] column s) unseen 0 xs) (sym c.in_ok-seen.ensures.items) (made_none (λ column s. IsSeenAfter c.args.kind [] column s) unseen)
 
 pub columns-preserved : goal.columns-preserved
 columns-preserved c =
